@@ -1,0 +1,2 @@
+-- Masks as machine words.
+pub mod Words

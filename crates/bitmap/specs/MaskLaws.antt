@@ -1,0 +1,115 @@
+-- The laws of masks, at any width: bits of a union and of a meet, and when two masks are equal. Assumes nothing.
+use mathlib.Core.Path.{_≡_, refl, sym, ap, _∙_, subst}
+use Prim.Native.Nat.{ℕ, zero, suc, _+_, _-_, _/_, _%_, _^_, _≤_, _<_, min, max}
+use native.Mathlib.Nat.{div-self, mul-mod-left, mul-div-cancel, div-one, zero-lt-suc, not-suc-le-zero, le-of-suc-le-suc, zero-div, div-lt-iff-lt-mul, div-eq-of-lt, one-mul, pow-suc, lt-of-lt-of-le}
+use native.Mathlib.Numerals.{one-add}
+use native.Mathlib.Omega.{arith}
+use native.Mathlib.Decide.{decLt}
+use lib.Arith.{bin-ind}
+use lib.Pow.{ones-lt, shr-shr, pow-mono, pow-pos}
+use lib.Bits.{bitOr, bitAnd, or-step, and-step, or-shr, and-shr}
+use Rattle.bitmap.specs.Mask.{allBelow, bit, withBit}
+
+-- ---- single bits
+
+pub bit-zero : (m : ℕ) → bit m 0 ≡ m % 2
+bit-zero m = ap (λ (x : ℕ). x % 2) (div-one m)
+
+pub bit-half : (m s : ℕ) → bit (m / 2) s ≡ bit m (suc s)
+bit-half m s = ap (λ (x : ℕ). x % 2) (shr-shr m 1 s ∙ ap (λ (k : ℕ). m / 2 ^ k) (one-add s))
+
+pub bit-lt : (m s : ℕ) → bit m s < 2
+bit-lt m s = omega arith
+
+pub bit-none : (s : ℕ) → bit 0 s ≡ 0
+bit-none s = ap (λ (x : ℕ). x % 2) (zero-div (2 ^ s))
+
+-- the lowest bit, and the others, of a union and of an intersection
+pub or-low : (a b : ℕ) → bitOr a b % 2 ≡ max (a % 2) (b % 2)
+or-low a b = omega (arith, or-step a b)
+
+pub or-half : (a b : ℕ) → bitOr a b / 2 ≡ bitOr (a / 2) (b / 2)
+or-half a b = omega (arith, or-step a b)
+
+pub and-low : (a b : ℕ) → bitAnd a b % 2 ≡ min (a % 2) (b % 2)
+and-low a b = omega (arith, and-step a b)
+
+pub and-half : (a b : ℕ) → bitAnd a b / 2 ≡ bitAnd (a / 2) (b / 2)
+and-half a b = omega (arith, and-step a b)
+
+pub bit-or : (a b s : ℕ) → bit (bitOr a b) s ≡ max (bit a s) (bit b s)
+bit-or a b s = ap (λ (x : ℕ). x % 2) (or-shr a b s) ∙ or-low (a / 2 ^ s) (b / 2 ^ s)
+
+pub bit-and : (a b s : ℕ) → bit (bitAnd a b) s ≡ min (bit a s) (bit b s)
+bit-and a b s = ap (λ (x : ℕ). x % 2) (and-shr a b s) ∙ and-low (a / 2 ^ s) (b / 2 ^ s)
+
+-- ---- extensionality
+
+none : (b : ℕ) → ((s : ℕ) → bit b s ≡ 0) → b ≡ 0
+none =
+    bin-ind (λ (n : ℕ). ((s : ℕ) → bit n s ≡ 0) → n ≡ 0) (λ h. refl)
+    (λ n ih h. omega (arith, ih (λ s. bit-half n s ∙ h (suc s)), bit-zero n, h 0))
+
+pub same-bits : (a b : ℕ) → ((s : ℕ) → bit a s ≡ bit b s) → a ≡ b
+same-bits =
+    bin-ind (λ (n : ℕ). (b : ℕ) → ((s : ℕ) → bit n s ≡ bit b s) → n ≡ b)
+    (λ b h. sym (none b (λ s. sym (h s) ∙ bit-none s)))
+    (λ n ih b h. omega (arith, ih (b / 2) (λ s. bit-half n s ∙ h (suc s) ∙ sym (bit-half b s)), bit-zero n, bit-zero b, h 0))
+
+-- ---- parts
+
+-- a is a part of b
+abbrev pub Within : ℕ → ℕ → Type 0
+Within a b = (s : ℕ) → bit a s ≤ bit b s
+
+pub within-or-left : (a b : ℕ) → Within a (bitOr a b)
+within-or-left a b s = omega (arith, bit-or a b s)
+
+pub within-or-right : (a b : ℕ) → Within b (bitOr a b)
+within-or-right a b s = omega (arith, bit-or a b s)
+
+-- ---- the width
+
+-- no bit at or above w
+pub below-bit : (w m s : ℕ) → m < 2 ^ w → w ≤ s → bit m s ≡ 0
+below-bit w m s h l = ap (λ (x : ℕ). x % 2) (div-eq-of-lt (lt-of-lt-of-le h (pow-mono l)))
+
+pub bits-below : (w m : ℕ) → ((s : ℕ) → w ≤ s → bit m s ≡ 0) → m < 2 ^ w
+bits-below w m h =
+    subst (λ (x : ℕ). m < x) (one-mul (2 ^ w))
+    (div-lt-iff-lt-mul (pow-pos w) .0 (omega (arith, none (m / 2 ^ w) (λ s. ap (λ (x : ℕ). x % 2) (shr-shr m w s) ∙ h (w + s) (omega arith)))))
+
+-- ---- one bit
+
+pub bit-same : (s : ℕ) → bit (2 ^ s) s ≡ 1
+bit-same s = ap (λ (x : ℕ). x % 2) (div-self (pow-pos s))
+
+pub bit-other : (s k : ℕ) → (k ≡ s → ⊥) → bit (2 ^ s) k ≡ 0
+bit-other zero zero h = absurd (h refl)
+bit-other zero (suc k) h = below-bit 1 1 (suc k) (omega arith) (omega arith)
+bit-other (suc s) zero h = bit-zero (2 ^ suc s) ∙ ap (λ (x : ℕ). x % 2) (pow-suc 2 s) ∙ mul-mod-left (2 ^ s) 2
+bit-other (suc s) (suc k) h =
+    sym (bit-half (2 ^ suc s) k) ∙ ap (λ (x : ℕ). bit (x / 2) k) (pow-suc 2 s) ∙ ap (λ (x : ℕ). bit x k) (mul-div-cancel (2 ^ s) (zero-lt-suc 1))
+    ∙ bit-other s k (λ e. h (ap suc e))
+
+pub bit-with : (m s k : ℕ) → bit (withBit m s) k ≡ max (bit m k) (bit (2 ^ s) k)
+bit-with m s k = bit-or m (2 ^ s) k
+
+-- ---- all numbers below n
+
+pub full-bit : (n s : ℕ) → s < n → bit (allBelow n) s ≡ 1
+full-bit zero s h = absurd (not-suc-le-zero h)
+full-bit (suc n) zero h = omega (arith, bit-zero (2 ^ suc n - 1), pow-suc 2 n, pow-pos n)
+full-bit (suc n) (suc s) h =
+    sym (bit-half (2 ^ suc n - 1) s) ∙ ap (λ (x : ℕ). bit x s) half ∙ full-bit n s (le-of-suc-le-suc h)
+  where
+    half : (2 ^ suc n - 1) / 2 ≡ 2 ^ n - 1
+    half = omega (arith, pow-suc 2 n, pow-pos n)
+
+-- a mask with no member at or above n and all below is the mask of all
+pub full : (n m : ℕ) → m < 2 ^ n → ((s : ℕ) → s < n → bit m s ≡ 1) → m ≡ allBelow n
+full n m h all = same-bits m (2 ^ n - 1) (λ s. go s (decLt s n))
+  where
+    go : (s : ℕ) → Dec (s < n) → bit m s ≡ bit (2 ^ n - 1) s
+    go s (yes l) = all s l ∙ sym (full-bit n s l)
+    go s (no f) = below-bit n m s h (omega arith) ∙ sym (below-bit n (2 ^ n - 1) s (ones-lt n) (omega arith))

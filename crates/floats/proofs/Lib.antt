@@ -1,0 +1,2 @@
+-- How the machine compares floats.
+pub mod Compare

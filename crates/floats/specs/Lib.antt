@@ -1,0 +1,6 @@
+-- Floats: their total order, finiteness, the larger of two, probabilities.
+pub mod Floats
+pub mod NumberLaws
+pub mod OrderLaws
+pub mod ShrinkLaws
+pub mod FirstLaws

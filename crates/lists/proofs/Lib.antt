@@ -1,0 +1,3 @@
+-- What loops over lists keep.
+pub mod Loops
+pub mod SortLoops

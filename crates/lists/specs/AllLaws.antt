@@ -1,0 +1,52 @@
+-- What the tests over a whole list say of its elements. Assumes nothing.
+use mathlib.Core.Path.{_≡_, refl, sym, ap}
+use mathlib.Core.Logic.{_↔_}
+use mathlib.Core.Bool.{Bool, true, false, _||_, and-eq-true-iff, true≢false}
+use mathlib.Core.List.{List, [], _∷_}
+use Prim.Native.Nat.{ℕ, zero, suc, _<_, suc-le-suc}
+use native.Mathlib.Nat.{zero-lt-suc, not-suc-le-zero, le-of-suc-le-suc}
+use lib.ListN.{length, getD}
+use Rattle.lists.specs.All.{all, any}
+
+module _ {A : Type 0} (p : A → Bool) (d : A) where
+  -- each element passes; d stands past the end
+  abbrev pub Each : List A → Type 0
+  Each xs = (k : ℕ) → k < length xs → p (getD xs k d) ≡ true
+
+  forth : (xs : List A) → all p xs ≡ true → Each xs
+  forth [] e k h = absurd (not-suc-le-zero h)
+  forth (x ∷ xs) e zero h = and-eq-true-iff (p x) (all p xs) .0 e .0
+  forth (x ∷ xs) e (suc k) h = forth xs (and-eq-true-iff (p x) (all p xs) .0 e .1) k (le-of-suc-le-suc h)
+
+  back : (xs : List A) → Each xs → all p xs ≡ true
+  back [] h = refl
+  back (x ∷ xs) h = and-eq-true-iff (p x) (all p xs) .1 (h zero (zero-lt-suc (length xs)), back xs (λ k l. h (suc k) (suc-le-suc l)))
+
+  pub all-means : (xs : List A) → (all p xs ≡ true) ↔ Each xs
+  all-means xs = (forth xs, back xs)
+
+  -- some element passes, and at which place
+  pub record Somewhere (xs : List A) : Type 0 where
+    pub place : ℕ
+    pub inside : place < length xs
+    pub passes : p (getD xs place d) ≡ true
+
+  found : (xs : List A) → any p xs ≡ true → Somewhere xs
+  found [] e = absurd (true≢false (sym e))
+  found (x ∷ xs) e = go (p x) refl (found xs) e
+    where
+      go : (b : Bool) → p x ≡ b → (any p xs ≡ true → Somewhere xs) → (b || any p xs) ≡ true → Somewhere (x ∷ xs)
+      go true q ih e = record { place = zero; inside = zero-lt-suc (length xs); passes = q }
+      go false q ih e = let s = ih e in record { place = suc (s .place); inside = suc-le-suc (s .inside); passes = s .passes }
+
+  shown : (xs : List A) (k : ℕ) → k < length xs → p (getD xs k d) ≡ true → any p xs ≡ true
+  shown [] k h e = absurd (not-suc-le-zero h)
+  shown (x ∷ xs) zero h e = ap (λ (b : Bool). b || any p xs) e
+  shown (x ∷ xs) (suc k) h e = go (p x) (shown xs k (le-of-suc-le-suc h) e)
+    where
+      go : (b : Bool) → any p xs ≡ true → (b || any p xs) ≡ true
+      go true q = refl
+      go false q = q
+
+  pub any-means : (xs : List A) → (any p xs ≡ true) ↔ Somewhere xs
+  any-means xs = (found xs, λ s. shown xs (s .place) (s .inside) (s .passes))
