@@ -1,4 +1,7 @@
 -- The laws of masks, at any width: bits of a union and of a meet, and when two masks are equal. Assumes nothing.
+use mathlib.Core.Logic.{_↔_}
+use mathlib.Core.Bool.{true}
+use borrow.Author.Tests.{ltb-true, lt-ltb}
 use mathlib.Core.Path.{_≡_, refl, sym, ap, _∙_, subst}
 use Prim.Native.Nat.{ℕ, zero, suc, _+_, _-_, _/_, _%_, _^_, _≤_, _<_, min, max}
 use native.Mathlib.Nat.{div-self, mul-mod-left, mul-div-cancel, div-one, zero-lt-suc, not-suc-le-zero, le-of-suc-le-suc, zero-div, div-lt-iff-lt-mul, div-eq-of-lt, one-mul, pow-suc, lt-of-lt-of-le}
@@ -8,7 +11,7 @@ use native.Mathlib.Decide.{decLt}
 use lib.Arith.{bin-ind}
 use lib.Pow.{ones-lt, shr-shr, pow-mono, pow-pos}
 use lib.Bits.{bitOr, bitAnd, or-step, and-step, or-shr, and-shr}
-use Rattle.bitmap.specs.Mask.{allBelow, bit, withBit}
+use Rattle.bitmap.specs.Mask.{allBelow, isBelow, bit, withBit}
 
 -- ---- single bits
 
@@ -78,6 +81,10 @@ pub bits-below : (w m : ℕ) → ((s : ℕ) → w ≤ s → bit m s ≡ 0) → m
 bits-below w m h =
     subst (λ (x : ℕ). m < x) (one-mul (2 ^ w))
     (div-lt-iff-lt-mul (pow-pos w) .0 (omega (arith, none (m / 2 ^ w) (λ s. ap (λ (x : ℕ). x % 2) (shr-shr m w s) ∙ h (w + s) (omega arith)))))
+
+-- every member of m is below w exactly if no bit at or above w is set
+pub below-means : (w m : ℕ) → (isBelow w m ≡ true) ↔ ((s : ℕ) → w ≤ s → bit m s ≡ 0)
+below-means w m = (λ e s l. below-bit w m s (ltb-true m (2 ^ w) e) l, λ h. lt-ltb m (2 ^ w) (bits-below w m h))
 
 -- ---- one bit
 

@@ -2,12 +2,12 @@
 use mathlib.Core.Path.{_≡_, refl, sym, ap, ap₂, subst, _∙_}
 use mathlib.Core.Logic.{⊎-elim, _⊎_, inl, inr, _↔_}
 use Prim.Native.Nat.{ℕ, zero, suc, _+_, _-_, _*_, _%_, _^_, _≤_, _<_, max}
-use native.Mathlib.Nat.{add-zero, add-suc, add-comm, zero-mul, one-mul, add-mul, pow-suc, mod-add-mod, add-mod-left, mod-lt, not-suc-le-zero, le-refl, le-step, le-of-suc-le-suc, eq-or-lt-of-le, mod-eq-of-lt}
+use native.Mathlib.Nat.{add-zero, add-suc, add-comm, zero-mul, one-mul, mul-one, add-mul, pow-suc, mod-add-mod, add-mod-left, mod-lt, not-suc-le-zero, le-refl, le-step, le-of-suc-le-suc, eq-or-lt-of-le, mod-eq-of-lt}
 use native.Mathlib.Decide.{ℕ-discrete}
 use native.Mathlib.Omega.{arith}
 use lib.Bits.{bitOr, or-shifted-r, or-zero-r}
 use lib.Pow.{pow-add, pow-pos, suc-ones, shl-lt, ones-lt}
-use Rattle.bitmap.specs.Mask.{bit, withBit, gather, run, runModulo}
+use Rattle.bitmap.specs.Mask.{bit, withBit, allBelow, gather, run, runModulo}
 use Rattle.bitmap.specs.MaskLaws.{bit-or, bit-none, bit-lt, bit-with, bit-same, bit-other, same-bits}
 
 -- ---- the members of a gathered mask
@@ -74,6 +74,10 @@ run-is a (suc k) =
     let joined : bitOr (x * 2 ^ a) (2 ^ (a + k)) ≡ 1 * 2 ^ (a + k) + x * 2 ^ a = ap (bitOr (x * 2 ^ a)) (sym (one-mul (2 ^ (a + k)))) ∙ or-shifted-r 1 (a + k) (x * 2 ^ a) low in
     let twice : (2 ^ suc k - 1) * 2 ^ a ≡ x * 2 ^ a + 2 ^ k * 2 ^ a = ap (λ (z : ℕ). z * 2 ^ a) (omega (arith, pow-suc 2 k, pow-pos k)) ∙ add-mul x (2 ^ k) (2 ^ a) in
     ap (λ (m : ℕ). withBit m (a + k)) (run-is a k) ∙ joined ∙ omega (arith, top, twice)
+
+-- a run from 0 is all numbers below its length
+pub run-all : (n : ℕ) → run 0 n ≡ allBelow n
+run-all n = run-is 0 n ∙ mul-one (2 ^ n - 1)
 
 -- a run modulo w that does not reach w
 pub run-flat : (w a k : ℕ) → a % w + k ≤ w → runModulo w a k ≡ run (a % w) k

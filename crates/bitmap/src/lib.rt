@@ -10,34 +10,34 @@ pub struct ReplicaId(pub usize);
 // The number of a shard.
 pub struct ShardId(pub usize);
 
-// Whether the shard s is in the row m.
-pub fn has_shard(m: u64, s: ShardId) -> bool
-    ensures { λ r. ⌜ r ≡ hasBit m (s .0) ⌝ }
+// Whether the shard s is in the row.
+pub fn has_shard(row: u64, s: ShardId) -> bool
+    ensures { λ r. ⌜ r ≡ hasBit row (s .0) ⌝ }
 {
-    bit_at(m, s.0)
+    bit_at(row, s.0)
 }
 
-// Whether the replica s is in the mask m.
-pub fn has_replica(m: u64, s: ReplicaId) -> bool
-    ensures { λ r. ⌜ r ≡ hasBit m (s .0) ⌝ }
+// Whether the replica s is in the mask.
+pub fn has_replica(mask: u64, s: ReplicaId) -> bool
+    ensures { λ r. ⌜ r ≡ hasBit mask (s .0) ⌝ }
 {
-    bit_at(m, s.0)
+    bit_at(mask, s.0)
 }
 
-// The row m with the shard s. A part: a word has room for shards below 64.
-pub fn with_shard(m: u64, s: ShardId) -> u64
+// The row with the shard s. A part: a word has room for shards below 64.
+pub fn with_shard(row: u64, s: ShardId) -> u64
     requires { ⌜ s .0 < 64 ⌝ }
-    ensures { λ r. ⌜ r ≡ withBit m (s .0) ⌝ }
+    ensures { λ r. ⌜ r ≡ withBit row (s .0) ⌝ }
 {
-    with_bit(m, s.0)
+    with_bit(row, s.0)
 }
 
-// The mask m with the replica s. A part, as with_shard.
-pub fn with_replica(m: u64, s: ReplicaId) -> u64
+// The mask with the replica s. A part, as with_shard.
+pub fn with_replica(mask: u64, s: ReplicaId) -> u64
     requires { ⌜ s .0 < 64 ⌝ }
-    ensures { λ r. ⌜ r ≡ withBit m (s .0) ⌝ }
+    ensures { λ r. ⌜ r ≡ withBit mask (s .0) ⌝ }
 {
-    with_bit(m, s.0)
+    with_bit(mask, s.0)
 }
 
 // The members of either mask.

@@ -1,0 +1,56 @@
+-- The bounds of the port, as tests. Assumes nothing.
+use Prim.Native.Nat.{ℕ, _^_}
+use mathlib.Core.Bool.{Bool, not, _&&_}
+use mathlib.Core.List.{List}
+use lib.Dec.{leb, ltb, eqb}
+use lib.ListN.{length}
+use Rattle.lists.specs.All.{all}
+use Rattle.bitmap.specs.Mask.{isBelow, allBelow}
+
+-- population: 1 to 16
+unfoldable pub isPopulation : ℕ → Bool
+isPopulation n = leb 1 n && leb n 16
+
+-- fault tolerance: 0 to n - 1
+abbrev pub isTolerance : ℕ → ℕ → Bool
+isTolerance n f = ltb f n
+
+-- a replica's number: below n
+abbrev pub isReplica : ℕ → ℕ → Bool
+isReplica n s = ltb s n
+
+-- data shards: 1 to 64; width, or its ceiling: d to 64
+unfoldable pub isShards : ℕ → ℕ → Bool
+isShards d w = leb 1 d && (leb d w && leb w 64)
+
+-- quorum and majority: 1 to n
+unfoldable pub isQuorum : ℕ → ℕ → Bool
+isQuorum n q = leb 1 q && leb q n
+
+-- the size of a value: at most 2 ^ 30 bytes
+abbrev pub isSize : ℕ → Bool
+isSize bytes = leb bytes (2 ^ 30)
+
+-- bytes in flight to a peer: at most 2 ^ 40
+abbrev pub isInFlight : ℕ → Bool
+isInFlight bytes = leb bytes (2 ^ 40)
+
+-- a mask with no replica at or above n
+abbrev pub isMask : ℕ → ℕ → Bool
+isMask n m = isBelow n m
+
+-- a row with no shard at or above w
+abbrev pub isRow : ℕ → ℕ → Bool
+isRow w row = isBelow w row
+
+-- a mask below a limit, as a number
+abbrev pub isUnder : ℕ → ℕ → Bool
+isUnder limit m = ltb m limit
+
+-- a set of some of n replicas, and not of all: as a number, below the mask of all
+abbrev pub isFaultSet : ℕ → ℕ → Bool
+isFaultSet n f = isUnder (allBelow n) f
+
+-- some fault sets
+unfoldable pub isFaultList : ℕ → List ℕ → Bool
+isFaultList n faults = not (eqb (length faults) 0) && all (isFaultSet n) faults

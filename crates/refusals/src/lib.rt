@@ -1,0 +1,185 @@
+// The numbers that refuse, by name, and the range checks that several entries share.
+ghost use mathlib.Core.Path.{_≡_};
+ghost use Prim.Native.Nat.{_≤_};
+ghost use Rattle.lists.specs.All.{all};
+ghost use Rattle.refusals.specs.Limits.{isPopulation, isTolerance, isReplica, isShards, isQuorum, isSize, isInFlight, isMask, isRow, isUnder, isFaultList};
+use bitmap::ReplicaId;
+
+// The population.
+pub const POPULATION: u8 = 1;
+
+// The fault tolerance.
+pub const TOLERANCE: u8 = 2;
+
+// The own, a peer's or the source's number is not below the population.
+pub const REPLICA: u8 = 3;
+
+// The data shards or the width.
+pub const SHARDS: u8 = 4;
+
+// The quorum or the majority.
+pub const QUORUM: u8 = 5;
+
+// A text too long, or with a byte above 127.
+pub const TEXT: u8 = 6;
+
+// A malformed numeral, or a whole number above 255.
+pub const NUMERAL: u8 = 7;
+
+// A well-formed decimal beyond the digit rule.
+pub const DIGITS: u8 = 8;
+
+// A replica or shard number in a text or a profile outside its range.
+pub const MEMBER: u8 = 9;
+
+// An unknown mechanism.
+pub const MECHANISM: u8 = 10;
+
+// Probabilities: their count, one of them, or the threshold.
+pub const PROBABILITIES: u8 = 11;
+
+// A 65th domain.
+pub const DOMAINS: u8 = 12;
+
+// A layout text that is neither a fitting number nor segments with colons.
+pub const LAYOUT: u8 = 13;
+
+// Total shards no multiple of the population, or data shards no multiple of the majority.
+pub const MULTIPLE: u8 = 14;
+
+// The size or the bytes in flight too large.
+pub const BYTES: u8 = 15;
+
+// A row with a shard at or above the width, or a mask with a replica at or above the population.
+pub const MASK: u8 = 16;
+
+// A lent table of the wrong length, or no fault list.
+pub const TABLE: u8 = 17;
+
+// The profile and the tolerance give a set that contains every replica.
+pub const EVERY_REPLICA: u8 = 21;
+
+// More maximal sets than words in the lent list.
+pub const ROOM: u8 = 22;
+
+// A reply whose ballot or value id differs from the tally's.
+pub const OTHER_VALUE: u8 = 23;
+
+// A trimmed plan that no longer commits.
+pub const TRIMMED: u8 = 24;
+
+// From 1 to 16 replicas.
+pub fn is_population(n: usize) -> bool
+    ensures { λ r. ⌜ r ≡ isPopulation n ⌝ }
+{
+    if n < 1 {
+        return false;
+    }
+    n <= 16
+}
+
+// A tolerance from 0 to n - 1.
+pub fn is_tolerance(n: usize, f: usize) -> bool
+    ensures { λ r. ⌜ r ≡ isTolerance n f ⌝ }
+{
+    f < n
+}
+
+// The number of one of n replicas.
+pub fn is_replica(n: usize, s: ReplicaId) -> bool
+    ensures { λ r. ⌜ r ≡ isReplica n (s .0) ⌝ }
+{
+    s.0 < n
+}
+
+// From 1 to 64 data shards, and a width, or its ceiling, from those to 64.
+pub fn is_shards(d: usize, w: usize) -> bool
+    ensures { λ r. ⌜ r ≡ isShards d w ⌝ }
+{
+    if d < 1 {
+        return false;
+    }
+    if w < d {
+        return false;
+    }
+    w <= 64
+}
+
+// A quorum, or a majority, from 1 to n.
+pub fn is_quorum(n: usize, q: usize) -> bool
+    ensures { λ r. ⌜ r ≡ isQuorum n q ⌝ }
+{
+    if q < 1 {
+        return false;
+    }
+    q <= n
+}
+
+// A value of at most 2^30 bytes.
+pub fn is_size(bytes: u64) -> bool
+    ensures { λ r. ⌜ r ≡ isSize bytes ⌝ }
+{
+    bytes <= 0x4000_0000
+}
+
+// At most 2^40 bytes in flight to a peer.
+pub fn is_in_flight(bytes: u64) -> bool
+    ensures { λ r. ⌜ r ≡ isInFlight bytes ⌝ }
+{
+    bytes <= 0x100_0000_0000
+}
+
+// A mask of some of n replicas.
+pub fn is_mask(n: usize, m: u64) -> bool
+    ensures { λ r. ⌜ r ≡ isMask n m ⌝ }
+{
+    bitmap::is_below(m, n)
+}
+
+// A row of shards below w.
+pub fn is_row(w: usize, row: u64) -> bool
+    ensures { λ r. ⌜ r ≡ isRow w row ⌝ }
+{
+    bitmap::is_below(row, w)
+}
+
+// Rows of shards below w.
+pub fn are_rows(w: usize, rows: &[u64]) -> bool
+    ensures { λ r. ⌜ r ≡ all (isRow w) (now (rows .entry)) ⌝ }
+{
+    let mut i = 0;
+    while i < rows.len() {
+        if is_row(w, rows[i]) {
+            i += 1;
+        } else {
+            return false;
+        }
+    }
+    true
+}
+
+// A fault list: some sets, none of them with a replica at or above n, or with all n. A part: n has been tested.
+pub fn is_fault_list(n: usize, faults: &[u64]) -> bool
+    requires { ⌜ n ≤ 64 ⌝ }
+    ensures { λ r. ⌜ r ≡ isFaultList n (now (faults .entry)) ⌝ }
+{
+    if faults.len() == 0 {
+        return false;
+    }
+    are_under(faults, bitmap::run(0, n))
+}
+
+// Whether every mask is below the limit, as a number.
+fn are_under(masks: &[u64], limit: u64) -> bool
+    ensures { λ r. ⌜ r ≡ all (isUnder limit) (now (masks .entry)) ⌝ }
+{
+    let mut i = 0;
+    while i < masks.len() {
+        if masks[i] < limit {
+            i += 1;
+        } else {
+            return false;
+        }
+    }
+    true
+}
