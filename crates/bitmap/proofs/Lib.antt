@@ -1,2 +1,3 @@
--- Masks as machine words.
+-- Masks as machine words, and worked values.
 pub mod Words
+pub mod Examples

@@ -2,5 +2,4 @@
 pub mod Floats
 pub mod NumberLaws
 pub mod OrderLaws
-pub mod ShrinkLaws
 pub mod FirstLaws

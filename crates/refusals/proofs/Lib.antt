@@ -1,2 +1,3 @@
--- How a chain of checks, in code, decides a chain of cases.
+-- How a chain of checks, in code, decides a chain of cases, and worked values.
 pub mod Checks
+pub mod Examples
