@@ -1,3 +1,4 @@
--- How a chain of checks, in code, decides a chain of cases, and worked values.
+-- How a chain of checks, in code, decides a chain of cases and an outcome, and worked values.
 pub mod Checks
+pub mod Outcomes
 pub mod Examples

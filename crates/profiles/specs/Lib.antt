@@ -1,0 +1,3 @@
+-- The reliability profile: its check, and the unreliability of a peer.
+pub mod Profile
+pub mod Unreliability

@@ -1,0 +1,30 @@
+-- How an entry that first asks for the number, and returns where it is not 0, comes to its outcome. The premises are what a need's record holds:
+-- `search outcomes`. Assumes nothing.
+use mathlib.Core.Path.{_≡_, refl, sym, ap, _∙_}
+use Prim.Native.Nat.{ℕ, zero, suc}
+use native.Mathlib.Nat.{suc-ne-zero}
+use Rattle.refusals.specs.Outcome.{Outcome, refused, accepted, outcome, written}
+
+module _ {A : Type 0} (k got : ℕ) where
+  pub is-refused : (a : A) → got ≡ k → (got ≡ 0 → ⊥) → refused got ≡ outcome k a
+  is-refused a e h = go k e
+    where
+      go : (k : ℕ) → got ≡ k → refused got ≡ outcome k a
+      go zero e = absurd (h e)
+      go (suc k) e = ap refused e
+
+  pub is-accepted : (a b : A) → got ≡ k → got ≡ 0 → b ≡ a → accepted b ≡ outcome k a
+  is-accepted a b e z q = rw (sym e ∙ z) (ap accepted q)
+
+  -- and what it leaves
+  pub leaves-all : (after before : A) → got ≡ k → (got ≡ 0 → ⊥) → before ≡ written k after before
+  leaves-all after before e h = go k e
+    where
+      go : (k : ℕ) → got ≡ k → before ≡ written k after before
+      go zero e = absurd (h e)
+      go (suc k) e = refl
+
+  pub writes-all : (after before now : A) → got ≡ k → got ≡ 0 → now ≡ after → now ≡ written k after before
+  writes-all after before now e z q = rw (sym e ∙ z) q
+
+pub ruleset outcomes = (is-refused, is-accepted)
