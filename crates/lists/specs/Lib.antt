@@ -1,6 +1,7 @@
 -- What loops over lists compute, for elements of any type, and what that means.
 pub mod All
 pub mod AllLaws
+pub mod Below
 pub mod Sort
 pub mod SortLaws
 pub mod First

@@ -1,0 +1,19 @@
+-- Tests over the numbers below a bound, and a list written to the front of another. Assumes nothing.
+use mathlib.Core.Bool.{Bool, true, false, cond, _||_}
+use mathlib.Core.List.{List, [], _∷_, _++_}
+use Prim.Native.Nat.{ℕ, zero, suc}
+use lib.ListN.{length, drop}
+
+-- some number below k passes the test
+unfoldable pub someBelow : (ℕ → Bool) → ℕ → Bool
+someBelow f zero = false
+someBelow f (suc k) = f k || someBelow f k
+
+-- the numbers below k that pass the test, rising
+unfoldable pub thoseBelow : (ℕ → Bool) → ℕ → List ℕ
+thoseBelow f zero = []
+thoseBelow f (suc k) = thoseBelow f k ++ cond (f k) (k ∷ []) []
+
+-- xs at the front of the list l, which past it is as it was
+unfoldable pub front : List ℕ → List ℕ → List ℕ
+front xs l = xs ++ drop (length xs) l

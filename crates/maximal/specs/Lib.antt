@@ -1,0 +1,3 @@
+-- The maximal members of a family of sets.
+pub mod Maximal
+pub mod Tables
