@@ -10,36 +10,36 @@ use lib.Seq.{drop-cons}
 use Rattle.lists.specs.All.{all, any}
 
 -- ---- every element passes
-module _ {A : Type 0} (d : A) (p : A → Bool) (xs : List A) (i : ℕ) where
+module _ {A : Type 0} (p : A → Bool) (xs : List A) (i : ℕ) where
   abbrev pub Passed : Type 0
   Passed = all p xs ≡ all p (drop i xs)
 
-  here : (r : Bool) → i < length xs → Passed → r ≡ p (getD xs i d) → all p xs ≡ (r && all p (drop (suc i) xs))
-  here r h e q = e ∙ ap (all p) (drop-cons xs i d h) ∙ ap (λ (b : Bool). b && all p (drop (suc i) xs)) (sym q)
+  here : (d : A) (r : Bool) → i < length xs → Passed → r ≡ p (getD xs i d) → all p xs ≡ (r && all p (drop (suc i) xs))
+  here d r h e q = e ∙ ap (all p) (drop-cons xs i d h) ∙ ap (λ (b : Bool). b && all p (drop (suc i) xs)) (sym q)
 
   -- r is what the test's function returned at i, and then what the branch saw
-  pub pass : (r : Bool) → i < length xs → Passed → r ≡ p (getD xs i d) → r ≡ true → all p xs ≡ all p (drop (i + 1) xs)
-  pass r h e q t = here r h e q ∙ ap (λ (b : Bool). b && all p (drop (suc i) xs)) t ∙ ap (λ (k : ℕ). all p (drop k xs)) (sym (add-one i))
+  pub pass : (d : A) (r : Bool) → i < length xs → Passed → r ≡ p (getD xs i d) → r ≡ true → all p xs ≡ all p (drop (i + 1) xs)
+  pass d r h e q t = here d r h e q ∙ ap (λ (b : Bool). b && all p (drop (suc i) xs)) t ∙ ap (λ (k : ℕ). all p (drop k xs)) (sym (add-one i))
 
-  pub fail : (r : Bool) → i < length xs → Passed → r ≡ p (getD xs i d) → r ≡ false → false ≡ all p xs
-  fail r h e q t = sym (here r h e q ∙ ap (λ (b : Bool). b && all p (drop (suc i) xs)) t)
+  pub fail : (d : A) (r : Bool) → i < length xs → Passed → r ≡ p (getD xs i d) → r ≡ false → false ≡ all p xs
+  fail d r h e q t = sym (here d r h e q ∙ ap (λ (b : Bool). b && all p (drop (suc i) xs)) t)
 
   pub done : length xs ≤ i → Passed → true ≡ all p xs
   done h e = sym (e ∙ ap (all p) (drop-of-length-le xs h))
 
 -- ---- some element passes
-module _ {A : Type 0} (d : A) (p : A → Bool) (xs : List A) (i : ℕ) where
+module _ {A : Type 0} (p : A → Bool) (xs : List A) (i : ℕ) where
   abbrev pub Missed : Type 0
   Missed = any p xs ≡ any p (drop i xs)
 
-  there : (r : Bool) → i < length xs → Missed → r ≡ p (getD xs i d) → any p xs ≡ (r || any p (drop (suc i) xs))
-  there r h e q = e ∙ ap (any p) (drop-cons xs i d h) ∙ ap (λ (b : Bool). b || any p (drop (suc i) xs)) (sym q)
+  there : (d : A) (r : Bool) → i < length xs → Missed → r ≡ p (getD xs i d) → any p xs ≡ (r || any p (drop (suc i) xs))
+  there d r h e q = e ∙ ap (any p) (drop-cons xs i d h) ∙ ap (λ (b : Bool). b || any p (drop (suc i) xs)) (sym q)
 
-  pub miss : (r : Bool) → i < length xs → Missed → r ≡ p (getD xs i d) → r ≡ false → any p xs ≡ any p (drop (i + 1) xs)
-  miss r h e q t = there r h e q ∙ ap (λ (b : Bool). b || any p (drop (suc i) xs)) t ∙ ap (λ (k : ℕ). any p (drop k xs)) (sym (add-one i))
+  pub miss : (d : A) (r : Bool) → i < length xs → Missed → r ≡ p (getD xs i d) → r ≡ false → any p xs ≡ any p (drop (i + 1) xs)
+  miss d r h e q t = there d r h e q ∙ ap (λ (b : Bool). b || any p (drop (suc i) xs)) t ∙ ap (λ (k : ℕ). any p (drop k xs)) (sym (add-one i))
 
-  pub hit : (r : Bool) → i < length xs → Missed → r ≡ p (getD xs i d) → r ≡ true → true ≡ any p xs
-  hit r h e q t = sym (there r h e q ∙ ap (λ (b : Bool). b || any p (drop (suc i) xs)) t)
+  pub hit : (d : A) (r : Bool) → i < length xs → Missed → r ≡ p (getD xs i d) → r ≡ true → true ≡ any p xs
+  hit d r h e q t = sym (there d r h e q ∙ ap (λ (b : Bool). b || any p (drop (suc i) xs)) t)
 
   pub spent : length xs ≤ i → Missed → false ≡ any p xs
   spent h e = sym (e ∙ ap (any p) (drop-of-length-le xs h))

@@ -4,11 +4,13 @@ use mathlib.Core.Path.{_≡_, refl, sym, ap, _∙_}
 use mathlib.Core.Bool.{Bool, true, false, not, cond, _&&_}
 use mathlib.Core.List.{List}
 use Prim.Native.Nat.{ℕ, _+_, _≤_, _<_}
+use native.Mathlib.Omega.{arith}
 use lib.Dec.{leb, ltb, eqb}
 use lib.ListN.{length, getD, drop}
 use borrow.Author.Tests.{lt-ltb, le-ltb, le-leb, lt-leb, eq-eqb, ne-eqb, not-true, not-false}
 use Rattle.lists.specs.All.{all}
-use Rattle.refusals.specs.Limits.{isUnder}
+use Rattle.refusals.specs.Limits.{isPopulation, isUnder}
+use Rattle.refusals.specs.LimitLaws.{population-means}
 use Rattle.lists.proofs.Loops.{Passed, pass, fail}
 
 -- ---- a range: `if b < a { return false; }`, and what is left of it
@@ -41,12 +43,26 @@ eq-passes a b k x rest e q = passes (eqb a b) k x rest (eq-eqb a b e) q
 pub eq-fails : (a b k rest : ℕ) → (a ≡ b → ⊥) → k ≡ cond (not (eqb a b)) k rest
 eq-fails a b k rest e = fails (eqb a b) k rest (ne-eqb a b e)
 
-pub ruleset checks = (refl, call-passes, call-fails, eq-passes, eq-fails)
+-- `if b < a { return k; }`
+pub le-passes : (a b k x rest : ℕ) → a ≤ b → x ≡ rest → x ≡ cond (not (leb a b)) k rest
+le-passes a b k x rest h q = passes (leb a b) k x rest (le-leb a b h) q
+
+pub le-fails : (a b k rest : ℕ) → b < a → k ≡ cond (not (leb a b)) k rest
+le-fails a b k rest h = fails (leb a b) k rest (lt-leb a b h)
+
+pub ruleset checks = (refl, call-passes, call-fails, eq-passes, eq-fails, le-passes, le-fails)
+
+-- ---- what a population that passed gives to the checks after it
+pub at-most-16 : (n : ℕ) (r : Bool) → r ≡ isPopulation n → not r ≡ false → n ≤ 16
+at-most-16 n r e t = population-means n .0 (sym e ∙ not-false r t) .1
+
+pub at-most-64 : (n : ℕ) (r : Bool) → r ≡ isPopulation n → not r ≡ false → n ≤ 64
+at-most-64 n r e t = omega (arith, at-most-16 n r e t)
 
 -- ---- a loop that compares each element with a limit
 module _ (limit : ℕ) (xs : List ℕ) (i : ℕ) where
-  pub under-pass : i < length xs → Passed 0 (isUnder limit) xs i → getD xs i 0 < limit → all (isUnder limit) xs ≡ all (isUnder limit) (drop (i + 1) xs)
-  under-pass h e l = pass 0 (isUnder limit) xs i (ltb (getD xs i 0) limit) h e refl (lt-ltb (getD xs i 0) limit l)
+  pub under-pass : i < length xs → Passed (isUnder limit) xs i → getD xs i 0 < limit → all (isUnder limit) xs ≡ all (isUnder limit) (drop (i + 1) xs)
+  under-pass h e l = pass (isUnder limit) xs i 0 (ltb (getD xs i 0) limit) h e refl (lt-ltb (getD xs i 0) limit l)
 
-  pub under-fail : i < length xs → Passed 0 (isUnder limit) xs i → limit ≤ getD xs i 0 → false ≡ all (isUnder limit) xs
-  under-fail h e l = fail 0 (isUnder limit) xs i (ltb (getD xs i 0) limit) h e refl (le-ltb (getD xs i 0) limit l)
+  pub under-fail : i < length xs → Passed (isUnder limit) xs i → limit ≤ getD xs i 0 → false ≡ all (isUnder limit) xs
+  under-fail h e l = fail (isUnder limit) xs i 0 (ltb (getD xs i 0) limit) h e refl (le-ltb (getD xs i 0) limit l)

@@ -2,6 +2,7 @@
 ghost use mathlib.Core.Path.{_≡_};
 ghost use Prim.Native.Nat.{_≤_};
 ghost use Rattle.lists.specs.All.{all};
+ghost use Rattle.bitmap.specs.Mask.{isBelow};
 ghost use Rattle.refusals.specs.Limits.{isPopulation, isTolerance, isReplica, isShards, isQuorum, isSize, isInFlight, isMask, isRow, isUnder, isFaultList};
 use bitmap::ReplicaId;
 
@@ -147,15 +148,14 @@ pub fn is_row(w: usize, row: u64) -> bool
 pub fn are_rows(w: usize, rows: &[u64]) -> bool
     ensures { λ r. ⌜ r ≡ all (isRow w) (now (rows .entry)) ⌝ }
 {
-    let mut i = 0;
-    while i < rows.len() {
-        if is_row(w, rows[i]) {
-            i += 1;
-        } else {
-            return false;
-        }
-    }
-    true
+    are_below(rows, w)
+}
+
+// Masks of some of n replicas.
+pub fn are_masks(n: usize, masks: &[u64]) -> bool
+    ensures { λ r. ⌜ r ≡ all (isMask n) (now (masks .entry)) ⌝ }
+{
+    are_below(masks, n)
 }
 
 // A fault list: some sets, none of them with a replica at or above n, or with all n. A part: n has been tested.
@@ -176,6 +176,21 @@ fn are_under(masks: &[u64], limit: u64) -> bool
     let mut i = 0;
     while i < masks.len() {
         if masks[i] < limit {
+            i += 1;
+        } else {
+            return false;
+        }
+    }
+    true
+}
+
+// Whether every member of every mask is below w.
+fn are_below(masks: &[u64], w: usize) -> bool
+    ensures { λ r. ⌜ r ≡ all (isBelow w) (now (masks .entry)) ⌝ }
+{
+    let mut i = 0;
+    while i < masks.len() {
+        if bitmap::is_below(masks[i], w) {
             i += 1;
         } else {
             return false;

@@ -10,7 +10,7 @@ use Rattle.refusals.proofs.are_under.Statement.{statement}
 use Rattle.refusals.proofs.are_under.Tie as tie
 
 abbrev Inv-loop : tie.InvT-loop
-Inv-loop masks limit i₀ i = (i ≤ length masks) × Passed 0 (isUnder limit) masks i
+Inv-loop masks limit i₀ i = (i ≤ length masks) × Passed (isUnder limit) masks i
 
 abbrev μ-loop : tie.MeasureT-loop
 μ-loop masks limit i₀ i = length masks - i

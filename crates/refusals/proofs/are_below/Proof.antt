@@ -1,21 +1,21 @@
--- `refusals::are_rows` meets its contract. Assumes nothing.
+-- `refusals::are_below` meets its contract. Assumes nothing.
 use mathlib.Core.Path.{refl}
 use Prim.Native.Nat.{_≤_, _-_}
 use borrow.Author.Needs.{needs}
 use lib.ListN.{length}
 use Rattle.lists.proofs.Loops.{Passed, pass, fail, done}
-use Rattle.refusals.specs.Limits.{isRow}
-use Rattle.refusals.proofs.are_rows.Statement.{statement}
-use Rattle.refusals.proofs.are_rows.Tie as tie
+use Rattle.bitmap.specs.Mask.{isBelow}
+use Rattle.refusals.proofs.are_below.Statement.{statement}
+use Rattle.refusals.proofs.are_below.Tie as tie
 
 abbrev Inv-loop : tie.InvT-loop
-Inv-loop w rows i₀ i = (i ≤ length rows) × Passed 0 (isRow w) rows i
+Inv-loop masks w i₀ i = (i ≤ length masks) × Passed (isBelow w) masks i
 
 abbrev μ-loop : tie.MeasureT-loop
-μ-loop w rows i₀ i = length rows - i
+μ-loop masks w i₀ i = length masks - i
 
-pub are-rows-spec : {M : Type 1} → statement M
-are-rows-spec =
+pub are-below-spec : {M : Type 1} → statement M
+are-below-spec =
     tie.close
     (tie.spec
     Inv-loop

@@ -1,0 +1,2 @@
+-- What an input that is not refused gives.
+pub mod Sound
