@@ -15,7 +15,7 @@ use lib.Ieee.Digits.{back}
 use lib.Ieee.Bits.{ofBits-toBits}
 use lib.Ieee.Order.{round-mono}
 use lib.Ieee.Positive.{num, den, den-pos, positive, own-value, mul-at, le→cross}
-use Rattle.floats.specs.Floats.{plusZero, one, isFinite, isProbability}
+use Rattle.floats.specs.Floats.{plusZero, one, isFinite, isProbability, Fine}
 use Rattle.floats.specs.NumberLaws.{holds}
 use Rattle.floats.specs.OrderLaws.{same-bits}
 
@@ -202,12 +202,6 @@ finite-between (inf false) nan w h k = absurd w
 finite-between (inf false) (inf t) w h k = absurd w
 finite-between (inf false) (fin t n d) w h k = absurd k
 finite-between (fin s m e) x w h k = tt
-
--- a double from 0 up to the largest finite one: what a product of probabilities can be
-pub record Fine (x : Float) : Type 0 where
-  pub fit : T (fits binary64 x)
-  pub finite : isFinite x ≡ true
-  pub above : le plusZero x ≡ true
 
 pub one-fine : Fine one
 unfolding fits isFinite le

@@ -1,10 +1,11 @@
 -- What is said of a float: whether it is finite, where it stands in total order, whether it is a probability. Assumes nothing.
 use Prim.Native.Nat.{ℕ, _*_}
+use mathlib.Core.Path.{_≡_}
 use mathlib.Core.Bool.{Bool, true, false, not, _&&_, _||_, cond}
 use mathlib.Core.Option.{Option, none, some}
 use lib.IntN.{pos}
-use lib.Dec.{leb}
-use lib.Ieee.{Float, nan, inf, fin, up, down, isNan, le}
+use lib.Dec.{T, leb}
+use lib.Ieee.{Float, nan, inf, fin, binary64, fits, up, down, isNan, le}
 use Rattle.floats.specs.declared.Found.{Found}
 use Rattle.floats.specs.declared.Found.the-variants.{Nothing, At}
 
@@ -47,6 +48,12 @@ larger a b = cond (isNan b) a (cond (totalLe a b) b a)
 -- from 0 to 1: a NaN is none, -0 is one
 unfoldable pub isProbability : Float → Bool
 isProbability p = le plusZero p && le p one
+
+-- a double from 0 up to the largest finite one: what a product of probabilities can be
+pub record Fine (x : Float) : Type 0 where
+  pub fit : T (fits binary64 x)
+  pub finite : isFinite x ≡ true
+  pub above : le plusZero x ≡ true
 
 -- what a search has found
 abbrev pub found : Found → Option Float
