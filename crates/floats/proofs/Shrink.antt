@@ -2,7 +2,7 @@
 use mathlib.Core.Path.{_≡_, refl, sym, ap, _∙_, subst}
 use mathlib.Core.Bool.{Bool, true, false, _&&_, _||_, true≢false, and-eq-true-iff}
 use Prim.Native.Nat.{ℕ, zero, suc, _+_, _-_, _*_, _%_, _^_, _≤_, _<_}
-use native.Mathlib.Nat.{le-of-eq, le-trans, lt-of-le-of-lt, lt-of-lt-of-le, lt-of-not-le, not-le-of-lt, mul-pos, mul-one, zero-add, zero-mul, mul-zero, mul-assoc, mul-comm, mul-right-comm, mul-le-mul-left, mul-le-mul-right, mul-lt-mul-of-pos-right, zero-lt-suc, lt-irrefl, eq-of-mul-eq-mul-right, le-of-suc-le-suc}
+use native.Mathlib.Nat.{le-refl, le-of-eq, le-trans, lt-of-le-of-lt, lt-of-lt-of-le, lt-of-not-le, not-le-of-lt, mul-pos, mul-one, zero-add, zero-mul, mul-zero, mul-assoc, mul-comm, mul-right-comm, mul-le-mul-left, mul-le-mul-right, mul-lt-mul-of-pos-right, zero-lt-suc, lt-irrefl, eq-of-mul-eq-mul-right, le-of-suc-le-suc}
 use native.Mathlib.Omega.{arith}
 use lib.IntN.{ℤ, pos, negsuc}
 use lib.Dec.{T, leb, ltb, eqb, leb→le, ltb→lt, lt→ltb, eqb→eq, lit<}
@@ -16,7 +16,7 @@ use lib.Ieee.Bits.{ofBits-toBits}
 use lib.Ieee.Order.{round-mono}
 use lib.Ieee.Positive.{num, den, den-pos, positive, own-value, mul-at, le→cross}
 use Rattle.floats.specs.Floats.{plusZero, one, isFinite, isProbability, Fine}
-use Rattle.floats.specs.NumberLaws.{holds}
+use Rattle.floats.specs.NumberLaws.{AtMost, test, holds}
 use Rattle.floats.specs.OrderLaws.{same-bits}
 
 -- ---- what it takes to fit
@@ -206,6 +206,19 @@ finite-between (fin s m e) x w h k = tt
 pub one-fine : Fine one
 unfolding fits isFinite le
 one-fine = record { fit = tt; finite = refl; above = refl }
+
+self : (x : Float) → isFinite x ≡ true → T (le x x)
+unfolding isFinite le
+self nan w = absurd (true≢false (sym w))
+self (inf s) w = absurd (true≢false (sym w))
+self (fin s m e) w = test s (m * up e * down e) s (m * up e * down e) (same s (m * up e * down e))
+  where
+    same : (s : Bool) (a : ℕ) → AtMost s a s a
+    same true a = le-refl a
+    same false a = le-refl a
+
+pub fine-le : (x : Float) → Fine x → le x x ≡ true
+fine-le x f = holds (self x (f .finite))
 
 module _ (x p : Float) (f : Fine x) (q : isProbability p ≡ true) where
   is : (b : Bool) → b ≡ true → T b

@@ -1,0 +1,4 @@
+-- Marks in a table of flags, the cut-off of the search for probable sets, and the finished table.
+pub mod Marks
+pub mod Prune
+pub mod Tables
