@@ -1,3 +1,4 @@
 -- What loops over lists keep.
 pub mod Loops
 pub mod SortLoops
+pub mod BelowLoops

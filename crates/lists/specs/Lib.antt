@@ -2,6 +2,7 @@
 pub mod All
 pub mod AllLaws
 pub mod Below
+pub mod BelowLaws
 pub mod Sort
 pub mod SortLaws
 pub mod First

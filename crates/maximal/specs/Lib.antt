@@ -1,3 +1,4 @@
 -- The maximal members of a family of sets.
 pub mod Maximal
 pub mod Tables
+pub mod MaximalLaws

@@ -1,0 +1,97 @@
+-- What a loop over the numbers below a bound keeps that counts, or writes to the front of a list, those that pass a test. The premises of each law are
+-- the fields of a need's record, so that `search` finds them: r is what the test's function returned at k, and then what the branch saw.
+-- Assumes nothing.
+use mathlib.Core.Path.{_≡_, refl, sym, ap, _∙_}
+use mathlib.Core.Bool.{Bool, true, false, cond}
+use mathlib.Core.List.{List, [], _∷_, _++_, append-nil, append-assoc}
+use Prim.Native.Nat.{ℕ, zero, suc, _+_, _≤_, _<_, zero-le}
+use native.Mathlib.Nat.{le-refl, le-trans}
+use native.Mathlib.Decide.{le-ind}
+use native.Mathlib.Numerals.{add-one}
+use native.Mathlib.Omega.{arith}
+use lib.ListN.{length, set, length-append, length-drop}
+use lib.Seq.{set-append-seam, drop-cons}
+use Rattle.lists.specs.Below.{thoseBelow, front}
+
+-- ---- one list at the front of another
+module _ (xs l : List ℕ) where
+  pub front-length : length xs ≤ length l → length (front xs l) ≡ length l
+  unfolding front
+  front-length h = simp (length-append, length-drop) (omega arith)
+
+  -- one more word
+  pub front-more : (x c : ℕ) → c ≡ length xs → length xs < length l → set (front xs l) c x ≡ front (xs ++ (x ∷ [])) l
+  unfolding front
+  front-more x c e h = rw (e, drop-cons l (length xs) 0 h, set-append-seam, length-append, add-one, append-assoc)
+
+module _ (f : ℕ → Bool) where
+  -- ---- a turn
+  pub those-yes : (k : ℕ) → f k ≡ true → thoseBelow f (k + 1) ≡ thoseBelow f k ++ (k ∷ [])
+  unfolding thoseBelow
+  those-yes k e = rw (add-one, e)
+
+  pub those-no : (k : ℕ) → f k ≡ false → thoseBelow f (k + 1) ≡ thoseBelow f k
+  unfolding thoseBelow
+  those-no k e = rw (add-one, e) (append-nil (thoseBelow f k))
+
+  -- ---- no more than were tried, and with more tried not fewer
+  pub those-le : (k : ℕ) → length (thoseBelow f k) ≤ k
+  unfolding thoseBelow
+  those-le zero = zero-le
+  those-le (suc k) = simp length-append (go (f k) (those-le k))
+    where
+      go : (b : Bool) → length (thoseBelow f k) ≤ k → length (thoseBelow f k) + length (cond b (k ∷ []) []) ≤ suc k
+      go true h = omega arith
+      go false h = omega arith
+
+  step : (k : ℕ) → length (thoseBelow f k) ≤ length (thoseBelow f (suc k))
+  unfolding thoseBelow
+  step k = simp length-append (omega arith)
+
+  pub those-mono : (i k : ℕ) → i ≤ k → length (thoseBelow f i) ≤ length (thoseBelow f k)
+  those-mono i k h = le-ind (λ (m : ℕ). length (thoseBelow f i) ≤ length (thoseBelow f m)) (le-refl _) (λ m l e. le-trans e (step m)) k h
+
+  -- ---- a count, by a loop up to L
+  pub count-none : 0 ≡ length (thoseBelow f 0)
+  unfolding thoseBelow
+  count-none = refl
+
+  module _ (c k : ℕ) (counted : c ≡ length (thoseBelow f k)) where
+    pub count-fits : (L w : ℕ) → k < L → L < w → c + 1 < w
+    count-fits L w h g = omega (arith, those-le k)
+
+    pub count-yes : (r : Bool) (d : ℕ) → r ≡ f k → r ≡ true → d ≡ c + 1 → d ≡ length (thoseBelow f (k + 1))
+    count-yes r d q t e = omega (arith, ap length (those-yes k (sym q ∙ t)), length-append (thoseBelow f k) (k ∷ []))
+
+    pub count-no : (r : Bool) (d : ℕ) → r ≡ f k → r ≡ false → d ≡ c → d ≡ length (thoseBelow f (k + 1))
+    count-no r d q t e = omega (arith, ap length (those-no k (sym q ∙ t)))
+
+    pub count-done : (L n : ℕ) → L ≡ n → k ≤ L → L ≤ k → c ≡ length (thoseBelow f n)
+    count-done L n e h g = let q : k ≡ n = omega arith in counted ∙ ap (λ (x : ℕ). length (thoseBelow f x)) q
+
+    -- ---- a list l, which has room for those below n
+    module _ (L n : ℕ) (l : List ℕ) (bound : L ≡ n) (all : length (thoseBelow f n) ≤ length l) where
+      pub room : (r : Bool) → k < L → r ≡ f k → r ≡ true → c < length l
+      room r h q t = omega (arith, those-mono (k + 1) n (omega arith), count-yes r (c + 1) q t refl)
+
+      module _ (w : List ℕ) (written : w ≡ front (thoseBelow f k) l) where
+        pub same-length : k ≤ L → length w ≡ length l
+        same-length h = ap length written ∙ front-length (thoseBelow f k) l (omega (arith, those-mono k n (omega arith)))
+
+        pub room-now : (r : Bool) → k < L → r ≡ f k → r ≡ true → c < length w
+        room-now r h q t = omega (arith, room r h q t, same-length (omega arith))
+
+        pub write-yes : (v : List ℕ) (r : Bool) → k < L → r ≡ f k → r ≡ true → v ≡ set w c k → v ≡ front (thoseBelow f (k + 1)) l
+        write-yes v r h q t s =
+            s ∙ ap (λ (x : List ℕ). set x c k) written ∙ front-more (thoseBelow f k) l k c counted (omega (arith, room r h q t))
+            ∙ ap (λ (x : List ℕ). front x l) (sym (those-yes k (sym q ∙ t)))
+
+        pub write-no : (v : List ℕ) (r : Bool) → r ≡ f k → r ≡ false → v ≡ w → v ≡ front (thoseBelow f (k + 1)) l
+        write-no v r q t s = s ∙ written ∙ ap (λ (x : List ℕ). front x l) (sym (those-no k (sym q ∙ t)))
+
+        pub write-done : k ≤ L → L ≤ k → w ≡ front (thoseBelow f n) l
+        write-done h g = let q : k ≡ n = omega arith in written ∙ ap (λ (x : ℕ). front (thoseBelow f x) l) q
+
+  pub write-none : (l : List ℕ) → l ≡ front (thoseBelow f 0) l
+  unfolding thoseBelow front
+  write-none l = refl

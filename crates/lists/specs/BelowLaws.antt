@@ -1,0 +1,106 @@
+-- What the tests over the numbers below a bound mean, for any test. Assumes nothing.
+use mathlib.Core.Path.{_≡_, refl, sym, ap, subst, _∙_}
+use mathlib.Core.Logic.{_↔_, ⊎-elim}
+use mathlib.Core.Bool.{Bool, true, false, cond, _||_, true≢false}
+use mathlib.Core.List.{List, [], _∷_, _++_, append-nil, List·Memᴰ, List·Memᴰ·head, List·Memᴰ·tail, List·Memᴰ·not-nil, List·Memᴰ·append-cases, List·Memᴰ·eq-of-singleton, Memᴰ·append-left, Memᴰ·append-right}
+use Prim.Native.Nat.{ℕ, zero, suc, _<_}
+use native.Mathlib.Nat.{not-suc-le-zero, le-of-suc-le-suc, eq-or-lt-of-le}
+use native.Mathlib.Omega.{arith}
+use borrow.Author.Tests.{lt-ltb}
+use lib.Dec.{ltb}
+use Rattle.lists.specs.Below.{someBelow, thoseBelow}
+use Rattle.lists.specs.SortLaws.{AtLeast, Ordered}
+
+-- a number below k that passes
+pub record Passing (f : ℕ → Bool) (k : ℕ) : Type 0 where
+  pub number : ℕ
+  pub small : number < k
+  pub passes : f number ≡ true
+
+module _ (f : ℕ → Bool) where
+  -- ---- some number passes
+
+  found : (k : ℕ) → someBelow f k ≡ true → Passing f k
+  unfolding someBelow
+  found zero e = absurd (true≢false (sym e))
+  found (suc k) e = go (f k) refl (found k) e
+    where
+      go : (b : Bool) → f k ≡ b → (someBelow f k ≡ true → Passing f k) → (b || someBelow f k) ≡ true → Passing f (suc k)
+      go true q ih e = record { number = k; small = omega arith; passes = q }
+      go false q ih e = let s = ih e in record { number = s .number; small = omega arith; passes = s .passes }
+
+  shown : (k i : ℕ) → i < k → f i ≡ true → someBelow f k ≡ true
+  unfolding someBelow
+  shown zero i h e = absurd (not-suc-le-zero h)
+  shown (suc k) i h e =
+      ⊎-elim (λ (q : i ≡ k). rw (subst (λ (x : ℕ). f x ≡ true) q e)) (λ (l : i < k). rw (shown k i l e) (go (f k))) (eq-or-lt-of-le (le-of-suc-le-suc h))
+    where
+      go : (b : Bool) → (b || true) ≡ true
+      go true = refl
+      go false = refl
+
+  pub some-below-means : (k : ℕ) → (someBelow f k ≡ true) ↔ Passing f k
+  some-below-means k = (found k, λ s. shown k (s .number) (s .small) (s .passes))
+
+  pub none-below-means : (k : ℕ) → (someBelow f k ≡ false) ↔ ((i : ℕ) → i < k → f i ≡ false)
+  none-below-means k = (λ e i h. off e i h (f i) refl, λ a. none a (someBelow f k) refl)
+    where
+      off : someBelow f k ≡ false → (i : ℕ) → i < k → (b : Bool) → f i ≡ b → f i ≡ false
+      off e i h true q = absurd (true≢false (sym (shown k i h q) ∙ e))
+      off e i h false q = q
+
+      none : ((i : ℕ) → i < k → f i ≡ false) → (b : Bool) → someBelow f k ≡ b → someBelow f k ≡ false
+      none a true q = let s = found k q in absurd (true≢false (sym (s .passes) ∙ a (s .number) (s .small)))
+      none a false q = q
+
+  -- ---- those that pass
+
+  last : (k m : ℕ) (b : Bool) → f k ≡ b → List·Memᴰ m (cond b (k ∷ []) []) → (m < suc k) × (f m ≡ true)
+  last k m true q d = let e = List·Memᴰ·eq-of-singleton d in (omega arith, ap f e ∙ q)
+  last k m false q d = absurd (List·Memᴰ·not-nil d)
+
+  forth : (k m : ℕ) → List·Memᴰ m (thoseBelow f k) → (m < k) × (f m ≡ true)
+  unfolding thoseBelow
+  forth zero m d = absurd (List·Memᴰ·not-nil d)
+  forth (suc k) m d =
+      ⊎-elim (λ (l : List·Memᴰ m (thoseBelow f k)). let r = forth k m l in (omega (arith, r .0), r .1)) (last k m (f k) refl) (List·Memᴰ·append-cases (thoseBelow f k) d)
+
+  back : (k m : ℕ) → m < k → f m ≡ true → List·Memᴰ m (thoseBelow f k)
+  unfolding thoseBelow
+  back zero m h e = absurd (not-suc-le-zero h)
+  back (suc k) m h e =
+      ⊎-elim
+      (λ (q : m ≡ k). Memᴰ·append-right (thoseBelow f k) (rw (ap f (sym q) ∙ e) (List·Memᴰ·head q)))
+      (λ (l : m < k). Memᴰ·append-left (cond (f k) (k ∷ []) []) (back k m l e))
+      (eq-or-lt-of-le (le-of-suc-le-suc h))
+
+  pub those-below-means : (k m : ℕ) → List·Memᴰ m (thoseBelow f k) ↔ ((m < k) × (f m ≡ true))
+  those-below-means k m = (forth k m, λ p. back k m (p .0) (p .1))
+
+  -- ---- and they rise
+
+  pub those-below-rising : (k : ℕ) → Ordered ltb (thoseBelow f k)
+  unfolding thoseBelow
+  those-below-rising zero = tt
+  those-below-rising (suc k) = ordered (f k) (thoseBelow f k) (those-below-rising k) (λ x d. forth k x d .0)
+    where
+      above : (z : ℕ) (xs : List ℕ) → z < k → AtLeast ltb z xs → AtLeast ltb z (xs ++ (k ∷ []))
+      above z [] h a = (lt-ltb z k h, tt)
+      above z (x ∷ xs) h a = (a .0, above z xs h (a .1))
+
+      ordered : (b : Bool) (xs : List ℕ) → Ordered ltb xs → ((x : ℕ) → List·Memᴰ x xs → x < k) → Ordered ltb (xs ++ cond b (k ∷ []) [])
+      ordered true [] o h = (tt, tt)
+      ordered true (x ∷ xs) o h = (above x xs (h x (List·Memᴰ·head refl)) (o .0), ordered true xs (o .1) (λ y d. h y (List·Memᴰ·tail d)))
+      ordered false xs o h = rw append-nil o
+
+-- ---- tests that agree below k
+module _ (f g : ℕ → Bool) where
+  pub some-below-same : (k : ℕ) → ((i : ℕ) → i < k → f i ≡ g i) → someBelow f k ≡ someBelow g k
+  unfolding someBelow
+  some-below-same zero h = refl
+  some-below-same (suc k) h = rw (some-below-same k (λ i l. h i (omega arith)), h k (omega arith))
+
+  pub those-below-same : (k : ℕ) → ((i : ℕ) → i < k → f i ≡ g i) → thoseBelow f k ≡ thoseBelow g k
+  unfolding thoseBelow
+  those-below-same zero h = refl
+  those-below-same (suc k) h = rw (those-below-same k (λ i l. h i (omega arith)), h k (omega arith))

@@ -1,0 +1,43 @@
+-- `maximal::write` meets its contract. The loop's invariant: c counts those below m, and they are at the front of the list. Assumes nothing.
+use Prim.Native.Nat.{_≤_, _<_, _-_}
+use mathlib.Core.Path.{_≡_}
+use mathlib.Core.Logic.{⊎-elim}
+use native.Mathlib.Omega.{arith}
+use borrow.Author.Needs.{needs}
+use lib.ListN.{length}
+use Rattle.lists.specs.Below.{thoseBelow, front}
+use Rattle.lists.proofs.BelowLoops.{count-none, count-yes, count-no, write-none, write-yes, write-no, write-done, room, room-now, same-length}
+use Rattle.maximal.specs.Maximal.{isMaximal, maximals}
+use Rattle.maximal.specs.Tables.{flagged}
+use Rattle.maximal.proofs.write.Statement.{statement}
+use Rattle.maximal.proofs.write.Tie as tie
+
+abbrev Inv-loop : tie.InvT-loop
+Inv-loop table over n list₀ c₀ m₀ list c m =
+    (m ≤ length table) × (c ≡ length (thoseBelow (isMaximal (flagged table) n) m)) × (list ≡ front (thoseBelow (isMaximal (flagged table) n) m) list₀)
+
+abbrev μ-loop : tie.MeasureT-loop
+μ-loop table over n list₀ c₀ m₀ list c m = length table - m
+
+room-at : (c : tie.Then1 Inv-loop μ-loop) → c .before .before .before .loop .c < length (c .before .before .before .before .before .before .before .args .list .now)
+unfolding maximals
+room-at c = search room
+
+pub write-spec : {M : Type 1} → statement M
+unfolding maximals
+write-spec =
+    tie.close
+    (tie.spec
+    Inv-loop
+    μ-loop
+    (λ c. (search needs, search count-none, search write-none))
+    (λ c κs. (search needs, (search needs, (search needs, search needs))))
+    (λ c. let h = room-at c in omega arith)
+    (λ c. search room-now)
+    (λ c. let h = room-at c in omega arith)
+    (λ c. search needs)
+    (λ c. search needs)
+    (λ c.
+    ⊎-elim (λ w. (search needs, search count-yes, search write-yes)) (λ w. (search needs, search count-no, search write-no)) (c .if1 .came))
+    (λ c. search same-length)
+    (λ c. search write-done))
