@@ -2,3 +2,4 @@
 pub mod Marks
 pub mod Prune
 pub mod Tables
+pub mod Answers

@@ -1,15 +1,19 @@
 -- The fault list: its refusals, its answer and its words. Assumes nothing.
-use Prim.Native.Nat.{ℕ}
-use mathlib.Core.Bool.{Bool}
+use Prim.Native.Nat.{ℕ, _≤_}
+use mathlib.Core.Path.{_≡_}
+use mathlib.Core.Bool.{Bool, true}
 use mathlib.Core.List.{List, [], _∷_}
 use lib.Dec.{leb}
-use lib.ListN.{length}
+use lib.Ieee.{Float}
+use lib.ListN.{length, take}
+use Rattle.lists.specs.All.{all}
 use Rattle.lists.specs.Below.{front}
 use Rattle.bitmap.specs.Mask.{allBelow}
 use Rattle.refusals.specs.Numbers.{POPULATION, TOLERANCE, EVERY_REPLICA, ROOM}
 use Rattle.refusals.specs.First.{Case, unless, firstOf}
 use Rattle.refusals.specs.Outcome.{Outcome, refused, accepted, outcome, written}
-use Rattle.refusals.specs.Limits.{isPopulation, isTolerance}
+use Rattle.refusals.specs.Limits.{isPopulation, isTolerance, isMask}
+use Rattle.floats.specs.Floats.{isProbability}
 use Rattle.profiles.specs.declared.Profile.{Profile}
 use Rattle.profiles.specs.Profile.{profileCases}
 use Rattle.maximal.specs.Maximal.{maximals}
@@ -20,6 +24,13 @@ use Rattle.faults.specs.Family.{family}
 -- of a family g of sets of n replicas and a list of `room` words: a set that contains every replica, or more maximal sets than words
 abbrev pub listCases : (ℕ → Bool) → ℕ → ℕ → List Case
 listCases g n room = (g (allBelow n), EVERY_REPLICA) ∷ unless (leb (length (maximals g n)) room) ROOM ∷ []
+
+-- so what listing the maximal sets of g comes to, and what it leaves in the list
+unfoldable pub listAnswer : (ℕ → Bool) → ℕ → ℕ → Outcome ℕ
+listAnswer g n room = outcome (firstOf (listCases g n room)) (length (maximals g n))
+
+unfoldable pub listWords : (ℕ → Bool) → ℕ → List ℕ → List ℕ
+listWords g n list = written (firstOf (listCases g n (length list))) (front (maximals g n) list) list
 
 -- from the input, and then those
 abbrev pub inputCases : ℕ → ℕ → Profile → List Case → List Case
@@ -39,3 +50,9 @@ faultListOf n f p room = outcome (faultRefusal n f p room) (length (maximals (fa
 -- the lent list at exit: the maximal sets at its front, and past them what it held
 unfoldable pub faultWords : ℕ → ℕ → Profile → List ℕ → List ℕ
 faultWords n f p list = written (faultRefusal n f p (length list)) (front (maximals (family n f p) n) list) list
+
+-- what an unrefused profile's arrays are: at most 64 domains, each of members below n, and probabilities where they are known
+pub record Accepted (n : ℕ) (domains : List ℕ) (count : ℕ) (known : Bool) (probs : List Float) : Type 0 where
+  pub counted : count ≤ 64
+  pub members : all (isMask n) (take count domains) ≡ true
+  pub chances : known ≡ true → all isProbability (take n probs) ≡ true

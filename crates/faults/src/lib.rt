@@ -1,14 +1,176 @@
-// The fault list.
+// The fault list: the maximal sets of replicas whose failure a committed value must survive (crash_sets, Tolerance::new).
 ghost use mathlib.Core.Path.{_≡_};
 ghost use mathlib.Core.Bool.{true, cond};
+ghost use mathlib.Core.List.{[]};
 ghost use Prim.Native.Nat.{_^_, _<_, _≤_};
-ghost use lib.ListN.{length};
+ghost use lib.ListN.{length, take};
 ghost use Rattle.lists.specs.All.{all};
-ghost use Rattle.refusals.specs.Limits.{isUnder};
+ghost use Rattle.refusals.specs.First.{firstOf};
+ghost use Rattle.refusals.specs.Limits.{isMask, isUnder};
 ghost use Rattle.floats.specs.Floats.{isProbability, Fine};
-ghost use Rattle.maximal.specs.Tables.{Flags};
+ghost use Rattle.maximal.specs.Tables.{flagged, Flags};
 ghost use Rattle.faults.specs.Family.{isSized, isAmong, familyOf};
 ghost use Rattle.faults.specs.Marks.{Marked, isHit};
+ghost use Rattle.faults.specs.FaultList.{Accepted, inputCases, answer, listAnswer, listWords, faultListOf, faultWords};
+use profiles::Profile;
+
+pub enum Listed {
+    Refused(u8),
+    Count(usize),
+}
+
+// The maximal sets of the family of a profile of n replicas, any f of which may fail, written to the front of `list` as masks in rising order.
+pub fn fault_list(n: usize, f: usize, p: Profile, list: &mut [u64]) -> Listed
+    ensures answer { λ r. ⌜ answer r ≡ faultListOf n f p (length (now (list .entry))) ⌝ }
+    ensures words { λ r. ⌜ now (list .exit) ≡ faultWords n f p (now (list .entry)) ⌝ }
+{
+    let no = input_refusal(n, f, p);
+    if no != 0 {
+        return Listed::Refused(no);
+    }
+    let known = p.prob_count != 0;
+    let probs = p.probs;
+    let domains = p.domains;
+    if n <= 8 {
+        return small(n, f, domains, p.domain_count, known, probs, p.threshold, list);
+    }
+    large(n, f, domains, p.domain_count, known, probs, p.threshold, list)
+}
+
+fn input_refusal(n: usize, f: usize, p: Profile) -> u8
+    ensures { λ r. ⌜ r ≡ firstOf (inputCases n f p []) ⌝ }
+{
+    if !refusals::is_population(n) {
+        return refusals::POPULATION;
+    }
+    if !refusals::is_tolerance(n, f) {
+        return refusals::TOLERANCE;
+    }
+    profiles::profile_refusal(n, p)
+}
+
+// The fault list of at most 8 replicas: tables of 256 flags, so that a small population does not pay for a large one.
+fn small(
+    n: usize,
+    f: usize,
+    domains: [u64; 64],
+    count: usize,
+    known: bool,
+    probs: [f64; 16],
+    threshold: f64,
+    list: &mut [u64],
+) -> Listed
+    requires { ⌜ n ≤ 8 ⌝ }
+    requires { ⌜ Accepted n domains count known probs ⌝ }
+    ensures answer { λ r. ⌜ answer r ≡ listAnswer (familyOf f (take count domains) known (take n probs) threshold) n (length (now (list .entry))) ⌝ }
+    ensures words { λ r. ⌜ now (list .exit) ≡ listWords (familyOf f (take count domains) known (take n probs) threshold) n (now (list .entry)) ⌝ }
+{
+    let mut table = blank_small();
+    let mut over = blank_small();
+    with_tables(n, f, domains, count, known, probs, threshold, &mut table, &mut over, list)
+}
+
+// The fault list of at most 16 replicas.
+fn large(
+    n: usize,
+    f: usize,
+    domains: [u64; 64],
+    count: usize,
+    known: bool,
+    probs: [f64; 16],
+    threshold: f64,
+    list: &mut [u64],
+) -> Listed
+    requires { ⌜ n ≤ 16 ⌝ }
+    requires { ⌜ Accepted n domains count known probs ⌝ }
+    ensures answer { λ r. ⌜ answer r ≡ listAnswer (familyOf f (take count domains) known (take n probs) threshold) n (length (now (list .entry))) ⌝ }
+    ensures words { λ r. ⌜ now (list .exit) ≡ listWords (familyOf f (take count domains) known (take n probs) threshold) n (now (list .entry)) ⌝ }
+{
+    let mut table = blank_large();
+    let mut over = blank_large();
+    with_tables(n, f, domains, count, known, probs, threshold, &mut table, &mut over, list)
+}
+
+// The fault list, with two tables to work in of at least 2^n flags each.
+fn with_tables(
+    n: usize,
+    f: usize,
+    domains: [u64; 64],
+    count: usize,
+    known: bool,
+    probs: [f64; 16],
+    threshold: f64,
+    table: &mut [u8],
+    over: &mut [u8],
+    list: &mut [u64],
+) -> Listed
+    requires { ⌜ n ≤ 16 ⌝ }
+    requires { ⌜ 2 ^ n ≤ length (now table) ⌝ }
+    requires { ⌜ 2 ^ n ≤ length (now over) ⌝ }
+    requires { ⌜ Accepted n domains count known probs ⌝ }
+    ensures answer { λ r. ⌜ answer r ≡ listAnswer (familyOf f (take count domains) known (take n probs) threshold) n (length (now (list .entry))) ⌝ }
+    ensures words { λ r. ⌜ now (list .exit) ≡ listWords (familyOf f (take count domains) known (take n probs) threshold) n (now (list .entry)) ⌝ }
+{
+    let size = 1usize << n;
+    build(n, f, &domains[..count], known, &probs[..n], threshold, &mut table[..size], &mut over[..size], list)
+}
+
+// Tables to work in. What they hold is not said, so that no proof computes with as many zeros.
+fn blank_small() -> [u8; 256]
+    ensures { λ r. ⌜ length r ≡ 256 ⌝ }
+{
+    [0u8; 256]
+}
+
+fn blank_large() -> [u8; 65536]
+    ensures { λ r. ⌜ length r ≡ 65536 ⌝ }
+{
+    [0u8; 65536]
+}
+
+// The fault list, with two tables of 2^n flags.
+fn build(
+    n: usize,
+    f: usize,
+    domains: &[u64],
+    known: bool,
+    probs: &[f64],
+    threshold: f64,
+    table: &mut [u8],
+    over: &mut [u8],
+    list: &mut [u64],
+) -> Listed
+    requires { ⌜ length (now probs) ≡ n ⌝ }
+    requires { ⌜ length (now table) ≡ 2 ^ n ⌝ }
+    requires { ⌜ length (now over) ≡ 2 ^ n ⌝ }
+    requires { ⌜ all (isMask n) (now domains) ≡ true ⌝ }
+    requires { ⌜ (known ≡ true → all isProbability (now probs) ≡ true) ⌝ }
+    ensures answer { λ r. ⌜ answer r ≡ listAnswer (familyOf f (now (domains .entry)) known (now (probs .entry)) threshold) n (length (now (list .entry))) ⌝ }
+    ensures words { λ r. ⌜ now (list .exit) ≡ listWords (familyOf f (now (domains .entry)) known (now (probs .entry)) threshold) n (now (list .entry)) ⌝ }
+{
+    flags(table, f, domains, known, probs, threshold);
+    list_of(table, over, n, list)
+}
+
+// Lists the maximal sets of the family that `table` flags.
+fn list_of(table: &[u8], over: &mut [u8], n: usize, list: &mut [u64]) -> Listed
+    requires { ⌜ length (now table) ≡ 2 ^ n ⌝ }
+    requires { ⌜ length (now over) ≡ 2 ^ n ⌝ }
+    ensures answer { λ r. ⌜ answer r ≡ listAnswer (flagged (now (table .entry))) n (length (now (list .entry))) ⌝ }
+    ensures words { λ r. ⌜ now (list .exit) ≡ listWords (flagged (now (table .entry))) n (now (list .entry)) ⌝ }
+{
+    let top = table.len() - 1;
+    if table[top] != 0 {
+        return Listed::Refused(refusals::EVERY_REPLICA);
+    }
+    maximal::cover(table, over, n);
+    let c = maximal::count(table, over, n);
+    if list.len() < c {
+        return Listed::Refused(refusals::ROOM);
+    }
+    maximal::write(table, over, n, list);
+    Listed::Count(c)
+}
 
 // Flags the family of n replicas, of which there is a probability each.
 fn flags(table: &mut [u8], f: usize, domains: &[u64], known: bool, probs: &[f64], threshold: f64)

@@ -1,0 +1,44 @@
+-- `faults::build` meets its contract. Assumes nothing.
+use mathlib.Core.Path.{_≡_, sym, ap, subst, _∙_}
+use mathlib.Core.Bool.{Bool, true}
+use mathlib.Core.List.{List}
+use Prim.Native.Nat.{ℕ, _^_, _<_}
+use native.Mathlib.Omega.{arith}
+use borrow.Author.Needs.{needs}
+use lib.ListN.{length}
+use Rattle.lists.specs.All.{all}
+use Rattle.refusals.specs.Limits.{isUnder}
+use Rattle.maximal.specs.MaximalLaws.{flagged-is}
+use Rattle.maximal.specs.Tables.{flagged}
+use Rattle.faults.specs.Family.{familyOf}
+use Rattle.faults.proofs.Answers.{answer-same, words-same}
+use Rattle.faults.proofs.build.Statement.{statement}
+use Rattle.faults.proofs.build.Tie as tie
+
+flags-requires : tie.Need-flags-requires
+flags-requires c κs =
+    let s = c .before .before .before .before .before .before in
+    (s .pre .1 .0 ∙ ap (λ (x : ℕ). 2 ^ x) (sym (s .pre .0)), (subst (λ (x : ℕ). all (isUnder x) (s .args .domains .now) ≡ true) (sym (s .pre .1 .0)) (s .pre .1 .1 .1 .0), s .pre .1 .1 .1 .1))
+
+returns : tie.Need-returns
+returns c =
+    let v = c .before .before .before .before .before .before .before .before .before .before in
+    let s = v .before .before .before .before .before .before .before in
+    let a = s .args in
+    let g : ℕ → Bool = familyOf (a .f) (a .domains .now) (a .known) (a .probs .now) (a .threshold) in
+    let t : List ℕ = v .flags .last .0 in
+    let e : length t ≡ 2 ^ a .n = v .flags .kept .0 ∙ s .pre .1 .0 in
+    let h : (k : ℕ) → k < 2 ^ a .n → flagged t k ≡ g k = λ k l. flagged-is g t (v .flags .ensures) k (omega arith) in
+    let r = c .before .before .before .before in
+    (r .list-of .ensures .0 ∙ answer-same (flagged t) g (a .n) h (length (a .list .now)), r .list-of .ensures .1 ∙ words-same (flagged t) g (a .n) h (a .list .now))
+
+pub build-spec : {M : Type 1} → statement M
+build-spec =
+    tie.close
+    (tie.spec
+    flags-requires
+    (λ c κs. search needs)
+    (λ c. search needs)
+    (λ c. search needs)
+    (λ c. search needs)
+    returns)
