@@ -1,5 +1,5 @@
--- What a loop over the numbers below a bound keeps that counts, or writes to the front of a list, those that pass a test. The premises of each law are
--- the fields of a need's record, so that `search` finds them: r is what the test's function returned at k, and then what the branch saw.
+-- What loops over the numbers below a bound keep: one more number tried, a count, and a list written to the front of another. The premises of a loop's
+-- laws are the fields of a need's record, so that `search` finds them: r is what the test's function returned at k, and then what the branch saw.
 -- Assumes nothing.
 use mathlib.Core.Path.{_≡_, refl, sym, ap, _∙_}
 use mathlib.Core.Bool.{Bool, true, false, cond}
@@ -11,7 +11,7 @@ use native.Mathlib.Numerals.{add-one}
 use native.Mathlib.Omega.{arith}
 use lib.ListN.{length, set, length-append, length-drop}
 use lib.Seq.{set-append-seam, drop-cons}
-use Rattle.lists.specs.Below.{thoseBelow, front}
+use Rattle.lists.specs.Below.{someBelow, thoseBelow, front}
 
 -- ---- one list at the front of another
 module _ (xs l : List ℕ) where
@@ -26,6 +26,14 @@ module _ (xs l : List ℕ) where
 
 module _ (f : ℕ → Bool) where
   -- ---- a turn
+  pub some-yes : (k : ℕ) → f k ≡ true → someBelow f (k + 1) ≡ true
+  unfolding someBelow
+  some-yes k e = rw (add-one, e)
+
+  pub some-no : (k : ℕ) → f k ≡ false → someBelow f (k + 1) ≡ someBelow f k
+  unfolding someBelow
+  some-no k e = rw (add-one, e)
+
   pub those-yes : (k : ℕ) → f k ≡ true → thoseBelow f (k + 1) ≡ thoseBelow f k ++ (k ∷ [])
   unfolding thoseBelow
   those-yes k e = rw (add-one, e)
@@ -51,15 +59,16 @@ module _ (f : ℕ → Bool) where
   pub those-mono : (i k : ℕ) → i ≤ k → length (thoseBelow f i) ≤ length (thoseBelow f k)
   those-mono i k h = le-ind (λ (m : ℕ). length (thoseBelow f i) ≤ length (thoseBelow f m)) (le-refl _) (λ m l e. le-trans e (step m)) k h
 
-  -- ---- a count, by a loop up to L
+  -- ---- a loop up to L, which is n: c counts those below k
   pub count-none : 0 ≡ length (thoseBelow f 0)
   unfolding thoseBelow
   count-none = refl
 
-  module _ (c k : ℕ) (counted : c ≡ length (thoseBelow f k)) where
-    pub count-fits : (L w : ℕ) → k < L → L < w → c + 1 < w
-    count-fits L w h g = omega (arith, those-le k)
+  pub write-none : (l : List ℕ) → l ≡ front (thoseBelow f 0) l
+  unfolding thoseBelow front
+  write-none l = refl
 
+  module _ (c k : ℕ) (counted : c ≡ length (thoseBelow f k)) where
     pub count-yes : (r : Bool) (d : ℕ) → r ≡ f k → r ≡ true → d ≡ c + 1 → d ≡ length (thoseBelow f (k + 1))
     count-yes r d q t e = omega (arith, ap length (those-yes k (sym q ∙ t)), length-append (thoseBelow f k) (k ∷ []))
 
@@ -69,7 +78,7 @@ module _ (f : ℕ → Bool) where
     pub count-done : (L n : ℕ) → L ≡ n → k ≤ L → L ≤ k → c ≡ length (thoseBelow f n)
     count-done L n e h g = let q : k ≡ n = omega arith in counted ∙ ap (λ (x : ℕ). length (thoseBelow f x)) q
 
-    -- ---- a list l, which has room for those below n
+    -- and writes them to the front of l, which has room for those below n; w is l as written so far
     module _ (L n : ℕ) (l : List ℕ) (bound : L ≡ n) (all : length (thoseBelow f n) ≤ length l) where
       pub room : (r : Bool) → k < L → r ≡ f k → r ≡ true → c < length l
       room r h q t = omega (arith, those-mono (k + 1) n (omega arith), count-yes r (c + 1) q t refl)
@@ -91,7 +100,3 @@ module _ (f : ℕ → Bool) where
 
         pub write-done : k ≤ L → L ≤ k → w ≡ front (thoseBelow f n) l
         write-done h g = let q : k ≡ n = omega arith in written ∙ ap (λ (x : ℕ). front (thoseBelow f x) l) q
-
-  pub write-none : (l : List ℕ) → l ≡ front (thoseBelow f 0) l
-  unfolding thoseBelow front
-  write-none l = refl

@@ -8,6 +8,7 @@ use mathlib.Core.List.{List}
 use borrow.Author.Tests.{eq-eqb, ne-eqb, eqb-true, eqb-false}
 use lib.Dec.{eqb}
 use lib.ListN.{length, getD, set}
+use lib.Pow.{pow-pos}
 use lib.Seq.{getD-set-same, getD-set-other}
 use Rattle.maximal.specs.Maximal.{isCoveredBy, isMaximal}
 use Rattle.maximal.specs.Tables.{flagged, Covers}
@@ -52,17 +53,18 @@ module _ (table over : List ℕ) (n k : ℕ) where
   unfolding Covers
   covers-none m h l = absurd (omega arith)
 
-  pub covers-next : 0 < k → Covers n table over k → Covers n table over (k - 1 + 1)
-  covers-next h = let e : k - 1 + 1 ≡ k = omega arith in rw e (λ c. c)
+  pub covers-next : Covers n table over k → Covers n table over (k - 1 + 1)
+  unfolding Covers
+  covers-next c m h l = c m (omega arith) l
 
   pub covers-more :
-      (v : ℕ) → 0 < k → k ≤ length table → length table ≡ 2 ^ n → length over ≡ 2 ^ n → Covers n table over k
+      (v : ℕ) → k ≤ length table → length table ≡ 2 ^ n → length over ≡ 2 ^ n → Covers n table over k
       → v ≡ cond (isCoveredBy (flagged table) n (k - 1)) 1 0 → Covers n table (set over (k - 1) v) (k - 1)
   unfolding Covers
-  covers-more v h l t o c e m f i = go (eqb m (k - 1)) refl
+  covers-more v l t o c e m f i = go (eqb m (k - 1)) refl
     where
       go : (b : Bool) → eqb m (k - 1) ≡ b → getD (set over (k - 1) v) m 0 ≡ cond (isCoveredBy (flagged table) n m) 1 0
-      go true q = rw (eqb-true m (k - 1) q) (getD-set-same over (k - 1) v 0 (omega arith) ∙ e)
+      go true q = rw (eqb-true m (k - 1) q) (getD-set-same over (k - 1) v 0 (omega (arith, pow-pos n)) ∙ e)
       go false q = let d = eqb-false m (k - 1) q in getD-set-other over (k - 1) m v 0 d ∙ c m (omega arith) i
 
   pub covers-all : k ≤ 0 → Covers n table over k → Covers n table over 0

@@ -1,4 +1,4 @@
--- What the maximal members of a family mean: which sets are listed, that every member is contained in a listed one, and the order. Assumes nothing.
+-- What the list of maximal members means: which sets are listed, that every member of the family is a part of one, and that the list rises. Assumes nothing.
 use Prim.Native.Nat.{ℕ, zero, suc, _+_, _^_, _<_, _≤_}
 use native.Mathlib.Omega.{arith}
 use native.Mathlib.Nat.{le-trans}
@@ -92,6 +92,7 @@ module _ (g : ℕ → Bool) (n : ℕ) where
 
   -- ---- the list
 
+  -- a mask is listed exactly if it is in the family, and a part of no other member
   pub maximal-means : (m : ℕ) → List·Memᴰ m (maximals g n) ↔ ((m < 2 ^ n) × (g m ≡ true) × ((s : ℕ) → s < 2 ^ n → g s ≡ true → Within m s → m ≡ s))
   unfolding maximals
   maximal-means m = (
@@ -99,10 +100,12 @@ module _ (g : ℕ → Bool) (n : ℕ) where
     λ p. those-below-means (isMaximal g n) (2 ^ n) m .1 (p .0, is-maximal-means m .1 (p .1, p .2)),
   )
 
+  -- strictly: none is listed twice
   pub rising : Ordered ltb (maximals g n)
   unfolding maximals
   rising = those-below-rising (isMaximal g n) (2 ^ n)
 
+  -- a proper superset is a larger number
   climb : (k m : ℕ) → 2 ^ n ≤ m + k → m < 2 ^ n → g m ≡ true → Contained g n m
   unfolding maximals isMaximal
   climb zero m h l e = absurd (omega arith)
@@ -117,6 +120,7 @@ module _ (g : ℕ → Bool) (n : ℕ) where
           record { set = u .set; listed = u .listed; holds = λ s. le-trans (r .holds s) (u .holds s) }
       go false q up = record { set = m; listed = those-below-means (isMaximal g n) (2 ^ n) m .1 (l, rw (e, q)); holds = λ s. omega arith }
 
+  -- every member of the family is a part of a listed set
   pub contained : (m : ℕ) → m < 2 ^ n → g m ≡ true → Contained g n m
   contained m = climb (2 ^ n) m (omega arith)
 

@@ -47,12 +47,12 @@ pub fn write(table: &[u8], over: &[u8], n: usize, list: &mut [u64])
     requires { ⌜ length (maximals (flagged (now table)) n) ≤ length (now list) ⌝ }
     ensures { λ _. ⌜ now (list .exit) ≡ front (maximals (flagged (now (table .entry))) n) (now (list .entry)) ⌝ }
 {
-    let mut c: usize = 0;
+    let mut i: usize = 0;
     let mut m: usize = 0;
     while m < table.len() {
         if is_maximal(table, over, n, m) {
-            list[c] = m as u64;
-            c += 1;
+            list[i] = m as u64;
+            i += 1;
         }
         m += 1;
     }

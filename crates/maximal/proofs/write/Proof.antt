@@ -1,4 +1,4 @@
--- `maximal::write` meets its contract. The loop's invariant: c counts those below m, and they are at the front of the list. Assumes nothing.
+-- `maximal::write` meets its contract. The loop's invariant: i counts those below m, and they are at the front of the list. Assumes nothing.
 use Prim.Native.Nat.{_≤_, _<_, _-_}
 use mathlib.Core.Path.{_≡_}
 use mathlib.Core.Logic.{⊎-elim}
@@ -13,13 +13,14 @@ use Rattle.maximal.proofs.write.Statement.{statement}
 use Rattle.maximal.proofs.write.Tie as tie
 
 abbrev Inv-loop : tie.InvT-loop
-Inv-loop table over n list₀ c₀ m₀ list c m =
-    (m ≤ length table) × (c ≡ length (thoseBelow (isMaximal (flagged table) n) m)) × (list ≡ front (thoseBelow (isMaximal (flagged table) n) m) list₀)
+Inv-loop table over n list₀ i₀ m₀ list i m =
+    (m ≤ length table) × (i ≡ length (thoseBelow (isMaximal (flagged table) n) m)) × (list ≡ front (thoseBelow (isMaximal (flagged table) n) m) list₀)
 
 abbrev μ-loop : tie.MeasureT-loop
-μ-loop table over n list₀ c₀ m₀ list c m = length table - m
+μ-loop table over n list₀ i₀ m₀ list i m = length table - m
 
-room-at : (c : tie.Then1 Inv-loop μ-loop) → c .before .before .before .loop .c < length (c .before .before .before .before .before .before .before .args .list .now)
+-- where a set is written there is room for it
+room-at : (c : tie.Then1 Inv-loop μ-loop) → c .before .before .before .loop .i < length (c .before .before .before .before .before .before .before .args .list .now)
 unfolding maximals
 room-at c = search room
 
