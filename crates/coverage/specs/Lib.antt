@@ -1,2 +1,3 @@
 -- The commit rule and the discard rule, and what they mean in shards and replicas.
 pub mod Coverage
+pub mod RefusalLaws
