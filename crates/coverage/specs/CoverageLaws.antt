@@ -70,6 +70,7 @@ module _ (row : ℕ → ℕ) (heard fault k : ℕ) where
       (λ q. omega (arith, bit-or (unionOf row heard fault n) (shareOf row heard fault n) k, back n s q e))
       (eq-or-lt-of-le (le-of-suc-le-suc l))
 
+  -- the union has exactly the shards that are held
   pub union-means : (n : ℕ) → (bit (unionOf row heard fault n) k ≡ 1) ↔ Held row heard fault n k
   union-means n = (
     forth n,
@@ -89,7 +90,7 @@ leaves-means n d heard row fault = (
 
 -- ---- coverage
 
--- somebody is heard, and without any one listed set there are d such shards
+-- somebody is heard (the mask is not 0), and without any one listed set there are d such shards
 pub record Survives (n d heard : ℕ) (row : ℕ → ℕ) (faults : List ℕ) : Type 0 where
   pub somebody : heard ≡ 0 → ⊥
   pub each-set : (i : ℕ) → i < length faults → Many d (Held row heard (getD faults i 0) n)
@@ -110,7 +111,7 @@ covered-means n d heard row faults = (
       ),
 )
 
--- ---- more heard, more in the rows, a smaller set: none of them loses a shard
+-- ---- more heard, more shards in the rows, a smaller set: none of these loses a shard
 
 pub leaves-grows : (n d heard heard′ : ℕ) (row row′ : ℕ → ℕ) (fault fault′ : ℕ) → Within heard heard′ → ((s : ℕ) → Within (row s) (row′ s)) → Within fault′ fault
     → leaves n d heard row fault ≡ true → leaves n d heard′ row′ fault′ ≡ true
@@ -132,6 +133,7 @@ leaves-grows n d heard heard′ row row′ fault fault′ more wider less e =
 pub leaves-within : (n d heard : ℕ) (row : ℕ → ℕ) (fault f : ℕ) → Within f fault → leaves n d heard row fault ≡ true → leaves n d heard row f ≡ true
 leaves-within n d heard row fault f = leaves-grows n d heard heard row row fault f (λ s. le-refl (bit heard s)) (λ s k. le-refl (bit (row s) k))
 
+-- what is covered stays covered with more heard and more shards in the rows
 pub covered-grows : (n d heard heard′ : ℕ) (row row′ : ℕ → ℕ) (faults : List ℕ) → Within heard heard′ → ((s : ℕ) → Within (row s) (row′ s))
     → isCovered n d heard row faults ≡ true → isCovered n d heard′ row′ faults ≡ true
 covered-grows n d heard heard′ row row′ faults more wider e =
@@ -153,7 +155,7 @@ within-tolerated n d heard row faults e i f l h =
 
 -- ---- survival
 
--- the set contains every one of n replicas that is not heard
+-- the set f contains every one of n replicas that is not heard
 abbrev pub Contains : ℕ → ℕ → ℕ → Type 0
 Contains n heard f = (s : ℕ) → s < n → (bit heard s ≡ 1 → ⊥) → bit f s ≡ 1
 
@@ -167,7 +169,7 @@ spares-means n heard f h l = (
     go s c (yes q) = omega (arith, bit-or f heard s, bit-lt f s)
     go s c (no u) = omega (arith, bit-or f heard s, c u)
 
--- some listed set does
+-- at some place of the list there is such a set
 pub record Spared (n heard : ℕ) (faults : List ℕ) : Type 0 where
   pub place : ℕ
   pub inside : place < length faults
@@ -186,9 +188,8 @@ survived-means n heard faults h below = (
       (record { place = i; inside = s .inside; passes = spares-means n heard (getD faults i 0) h (below i (s .inside)) .1 (s .contains) }),
 )
 
--- ---- the entries
+-- ---- the entries: the answer is yes exactly if nothing refuses and the rule holds
 
--- a value is accepted exactly if nothing refuses and it is the value
 accepted-means : {A : Type 0} (k : ℕ) (a b : A) → (outcome k a ≡ accepted b) ↔ ((k ≡ 0) × (a ≡ b))
 accepted-means zero a b = (λ e. (refl, cc), λ h. ap accepted (h .1))
 accepted-means (suc k) a b = (λ e. let z : _≡_ {A = ℕ} 0 1 = cc in absurd (omega arith), λ h. absurd (omega arith))
