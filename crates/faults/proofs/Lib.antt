@@ -3,3 +3,4 @@ pub mod Marks
 pub mod Prune
 pub mod Tables
 pub mod Answers
+pub mod Entry

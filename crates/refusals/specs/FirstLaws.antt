@@ -3,8 +3,8 @@
 use mathlib.Core.Path.{_≡_, refl, sym, ap, _∙_}
 use mathlib.Core.Logic.{_↔_, _⊎_, inl, inr}
 use mathlib.Core.Bool.{Bool, true, false, cond, true≢false, and-eq-true-iff}
-use mathlib.Core.List.{List, [], _∷_}
-use Prim.Native.Nat.{ℕ, _<_}
+use mathlib.Core.List.{List, [], _∷_, _++_}
+use Prim.Native.Nat.{ℕ, zero, suc, _<_}
 use native.Mathlib.Omega.{arith}
 use lib.Dec.{ltb}
 use borrow.Author.Tests.{ltb-true}
@@ -56,3 +56,22 @@ back (c ∷ cs) k (inr h) = rw (h .0) (back cs k (h .1))
 
 pub first-is : (cs : List Case) (k : ℕ) → 0 < k → (firstOf cs ≡ k) ↔ FirstIs k cs
 first-is cs k h = (forth cs k h, back cs k)
+
+-- ---- a list of cases after another
+
+-- the number of the first, or of the second where the first has none
+abbrev pub otherwise : ℕ → ℕ → ℕ
+otherwise zero k = k
+otherwise (suc j) k = suc j
+
+pub first-then : (cs ds : List Case) → numbered cs ≡ true → firstOf (cs ++ ds) ≡ otherwise (firstOf cs) (firstOf ds)
+first-then [] ds u = refl
+first-then (c ∷ cs) ds u =
+    let n = and-eq-true-iff (ltb 0 (c .1)) (numbered cs) .0 u in
+    go (c .0) (c .1) (ltb-true 0 (c .1) (n .0)) (first-then cs ds (n .1))
+  where
+    go : (b : Bool) (k : ℕ) → 0 < k → firstOf (cs ++ ds) ≡ otherwise (firstOf cs) (firstOf ds)
+        → cond b k (firstOf (cs ++ ds)) ≡ otherwise (cond b k (firstOf cs)) (firstOf ds)
+    go true zero h ih = absurd (omega arith)
+    go true (suc k) h ih = refl
+    go false k h ih = ih

@@ -9,7 +9,7 @@ use Rattle.coverage.proofs.all_leave.Statement.{statement}
 use Rattle.coverage.proofs.all_leave.Tie as tie
 
 abbrev Inv-loop : tie.InvT-loop
-Inv-loop n d heard rows faults i₀ i = (i ≤ length faults) × Passed 0 (leaves n d heard (rowIn rows)) faults i
+Inv-loop n d heard rows faults i₀ i = (i ≤ length faults) × Passed (leaves n d heard (rowIn rows)) faults i
 
 abbrev μ-loop : tie.MeasureT-loop
 μ-loop n d heard rows faults i₀ i = length faults - i

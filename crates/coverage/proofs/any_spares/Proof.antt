@@ -10,7 +10,7 @@ use Rattle.coverage.proofs.any_spares.Statement.{statement}
 use Rattle.coverage.proofs.any_spares.Tie as tie
 
 abbrev Inv-loop : tie.InvT-loop
-Inv-loop heard faults whole i₀ i = (i ≤ length faults) × Missed 0 (completes heard whole) faults i
+Inv-loop heard faults whole i₀ i = (i ≤ length faults) × Missed (completes heard whole) faults i
 
 abbrev μ-loop : tie.MeasureT-loop
 μ-loop heard faults whole i₀ i = length faults - i
