@@ -8,7 +8,7 @@ use lib.ListN.{length, getD}
 use Rattle.lists.specs.All.{all, any}
 use Rattle.bitmap.specs.Mask.{hasBit, allBelow, count}
 use Rattle.refusals.specs.Numbers.{POPULATION, SHARDS, MASK, TABLE}
-use Rattle.refusals.specs.First.{unless, firstOf}
+use Rattle.refusals.specs.First.{Case, unless, firstOf}
 use Rattle.refusals.specs.Outcome.{Outcome, refused, accepted, outcome}
 use Rattle.refusals.specs.Limits.{isPopulation, isShards, isMask, isRow, isFaultList}
 use Rattle.coverage.specs.declared.Coverage.{Coverage}
@@ -39,16 +39,18 @@ leaves n d heard row fault = leb d (count (unionOf row heard fault n))
 unfoldable pub isCovered : ℕ → ℕ → ℕ → (ℕ → ℕ) → List ℕ → Bool
 isCovered n d heard row faults = not (eqb heard 0) && all (leaves n d heard row) faults
 
-unfoldable pub coversRefusal : ℕ → ℕ → ℕ → ℕ → List ℕ → List ℕ → ℕ
-coversRefusal n d w heard rows faults =
-    firstOf
-    (unless (isPopulation n) POPULATION
+abbrev pub coversCases : ℕ → ℕ → ℕ → ℕ → List ℕ → List ℕ → List Case
+coversCases n d w heard rows faults =
+    unless (isPopulation n) POPULATION
     ∷ unless (isShards d w) SHARDS
     ∷ unless (all (isRow w) rows) MASK
     ∷ unless (isMask n heard) MASK
     ∷ unless (eqb (length rows) n) TABLE
     ∷ unless (isFaultList n faults) TABLE
-    ∷ [])
+    ∷ []
+
+unfoldable pub coversRefusal : ℕ → ℕ → ℕ → ℕ → List ℕ → List ℕ → ℕ
+coversRefusal n d w heard rows faults = firstOf (coversCases n d w heard rows faults)
 
 -- what an answer is: the number that refuses, or whether it is covered
 abbrev pub coverage : Coverage → Outcome Bool
@@ -73,9 +75,11 @@ spares n heard f = completes heard (allBelow n) f
 abbrev pub isSurvived : ℕ → ℕ → List ℕ → Bool
 isSurvived n heard faults = any (spares n heard) faults
 
+abbrev pub survivedCases : ℕ → ℕ → List ℕ → List Case
+survivedCases n heard faults = unless (isPopulation n) POPULATION ∷ unless (isMask n heard) MASK ∷ unless (isFaultList n faults) TABLE ∷ []
+
 unfoldable pub survivedRefusal : ℕ → ℕ → List ℕ → ℕ
-survivedRefusal n heard faults =
-    firstOf (unless (isPopulation n) POPULATION ∷ unless (isMask n heard) MASK ∷ unless (isFaultList n faults) TABLE ∷ [])
+survivedRefusal n heard faults = firstOf (survivedCases n heard faults)
 
 abbrev pub survival : Survival → Outcome Bool
 survival (Surviving.Refused k) = refused k

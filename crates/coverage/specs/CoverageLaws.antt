@@ -18,7 +18,8 @@ use Rattle.lists.specs.AllLaws.{all-means, any-means}
 use Rattle.bitmap.specs.Mask.{bit, hasBit, allBelow, count}
 use Rattle.bitmap.specs.MaskLaws.{Within, bit-lt, bit-none, bit-or, same-bits, full, full-bit}
 use Rattle.bitmap.specs.Members.{Many, count-means, many-map}
-use Rattle.refusals.specs.Outcome.{accepted, outcome}
+use Rattle.refusals.specs.OutcomeLaws.{accepted-means}
+use Rattle.refusals.specs.Outcome.{accepted}
 use Rattle.coverage.specs.Coverage.{rowIn, shareOf, unionOf, leaves, isCovered, coversRefusal, coversOf, spares, isSurvived, survivedRefusal, survivedOf}
 use Rattle.coverage.specs.RefusalLaws.{survived-fit}
 
@@ -189,10 +190,6 @@ survived-means n heard faults h below = (
 )
 
 -- ---- the entries: the answer is yes exactly if nothing refuses and the rule holds
-
-accepted-means : {A : Type 0} (k : ℕ) (a b : A) → (outcome k a ≡ accepted b) ↔ ((k ≡ 0) × (a ≡ b))
-accepted-means zero a b = (λ e. (refl, cc), λ h. ap accepted (h .1))
-accepted-means (suc k) a b = (λ e. let z : _≡_ {A = ℕ} 0 1 = cc in absurd (omega arith), λ h. absurd (omega arith))
 
 pub covers-means : (n d w heard : ℕ) (rows faults : List ℕ)
     → (coversOf n d w heard rows faults ≡ accepted true) ↔ ((coversRefusal n d w heard rows faults ≡ 0) × Survives n d heard (rowIn rows) faults)

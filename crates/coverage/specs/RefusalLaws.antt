@@ -1,19 +1,15 @@
 -- What an input is that is not refused: each check, said in numbers. Assumes nothing.
 use mathlib.Core.Path.{_≡_, refl}
 use mathlib.Core.Logic.{_↔_}
-use mathlib.Core.List.{List, [], _∷_}
+use mathlib.Core.List.{List}
 use Prim.Native.Nat.{ℕ, _^_, _≤_, _<_}
-use lib.Dec.{eqb}
 use lib.ListN.{length}
 use borrow.Author.Tests.{eqb-true, eq-eqb, ltb-true, lt-ltb, not-false}
-use Rattle.lists.specs.All.{all}
 use Rattle.lists.specs.AllLaws.{Each, all-means}
-use Rattle.refusals.specs.Numbers.{POPULATION, SHARDS, MASK, TABLE}
-use Rattle.refusals.specs.First.{Case, unless}
 use Rattle.refusals.specs.FirstLaws.{none-holds}
-use Rattle.refusals.specs.Limits.{isPopulation, isShards, isMask, isRow, isFaultSet, isFaultList}
+use Rattle.refusals.specs.Limits.{isRow, isFaultSet}
 use Rattle.refusals.specs.LimitLaws.{population-means, shards-means, fault-list-means}
-use Rattle.coverage.specs.Coverage.{coversRefusal, survivedRefusal}
+use Rattle.coverage.specs.Coverage.{coversCases, coversRefusal, survivedCases, survivedRefusal}
 
 -- a list with a set, and each of its sets is a fault set of n replicas
 abbrev pub FaultList : ℕ → List ℕ → Type 0
@@ -29,21 +25,11 @@ module _ (n d w heard : ℕ) (rows faults : List ℕ) where
     pub table : length rows ≡ n
     pub list : FaultList n faults
 
-  abbrev cases : List Case
-  cases =
-      unless (isPopulation n) POPULATION
-      ∷ unless (isShards d w) SHARDS
-      ∷ unless (all (isRow w) rows) MASK
-      ∷ unless (isMask n heard) MASK
-      ∷ unless (eqb (length rows) n) TABLE
-      ∷ unless (isFaultList n faults) TABLE
-      ∷ []
-
   pub covers-sound : (coversRefusal n d w heard rows faults ≡ 0) ↔ Sound
   unfolding coversRefusal
   covers-sound = (
     λ e.
-        let h = none-holds cases refl .0 e in
+        let h = none-holds (coversCases n d w heard rows faults) refl .0 e in
         record {
           population = population-means n .0 (not-false _ (h .0));
           shards = shards-means d w .0 (not-false _ (h .1 .0));
@@ -70,14 +56,11 @@ module _ (n heard : ℕ) (faults : List ℕ) where
     pub mask : heard < 2 ^ n
     pub list : FaultList n faults
 
-  abbrev tests : List Case
-  tests = unless (isPopulation n) POPULATION ∷ unless (isMask n heard) MASK ∷ unless (isFaultList n faults) TABLE ∷ []
-
   pub survived-fit : (survivedRefusal n heard faults ≡ 0) ↔ Fit
   unfolding survivedRefusal
   survived-fit = (
     λ e.
-        let h = none-holds tests refl .0 e in
+        let h = none-holds (survivedCases n heard faults) refl .0 e in
         record {
           population = population-means n .0 (not-false _ (h .0));
           mask = ltb-true heard (2 ^ n) (not-false _ (h .1 .0));

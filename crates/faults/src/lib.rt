@@ -32,9 +32,27 @@ pub fn fault_list(n: usize, f: usize, p: Profile, list: &mut [u64]) -> Listed
     let probs = p.probs;
     let domains = p.domains;
     if n <= 8 {
-        return small(n, f, domains, p.domain_count, known, probs, p.threshold, list);
+        return small(
+            n,
+            f,
+            domains,
+            p.domain_count,
+            known,
+            probs,
+            p.threshold,
+            list,
+        );
     }
-    large(n, f, domains, p.domain_count, known, probs, p.threshold, list)
+    large(
+        n,
+        f,
+        domains,
+        p.domain_count,
+        known,
+        probs,
+        p.threshold,
+        list,
+    )
 }
 
 fn input_refusal(n: usize, f: usize, p: Profile) -> u8
@@ -67,7 +85,18 @@ fn small(
 {
     let mut table = blank_small();
     let mut over = blank_small();
-    with_tables(n, f, domains, count, known, probs, threshold, &mut table, &mut over, list)
+    with_tables(
+        n,
+        f,
+        domains,
+        count,
+        known,
+        probs,
+        threshold,
+        &mut table,
+        &mut over,
+        list,
+    )
 }
 
 // The fault list of at most 16 replicas.
@@ -88,7 +117,18 @@ fn large(
 {
     let mut table = blank_large();
     let mut over = blank_large();
-    with_tables(n, f, domains, count, known, probs, threshold, &mut table, &mut over, list)
+    with_tables(
+        n,
+        f,
+        domains,
+        count,
+        known,
+        probs,
+        threshold,
+        &mut table,
+        &mut over,
+        list,
+    )
 }
 
 // The fault list, with two tables to work in of at least 2^n flags each.
@@ -112,7 +152,17 @@ fn with_tables(
     ensures words { λ r. ⌜ now (list .exit) ≡ listWords (familyOf f (take count domains) known (take n probs) threshold) n (now (list .entry)) ⌝ }
 {
     let size = 1usize << n;
-    build(n, f, &domains[..count], known, &probs[..n], threshold, &mut table[..size], &mut over[..size], list)
+    build(
+        n,
+        f,
+        &domains[..count],
+        known,
+        &probs[..n],
+        threshold,
+        &mut table[..size],
+        &mut over[..size],
+        list,
+    )
 }
 
 // Tables to work in. What they hold is not said, so that no proof computes with as many zeros.

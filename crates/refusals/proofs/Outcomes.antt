@@ -16,6 +16,10 @@ module _ {A : Type 0} (k got : ℕ) where
   pub is-accepted : (a b : A) → got ≡ k → got ≡ 0 → b ≡ a → accepted b ≡ outcome k a
   is-accepted a b e z q = rw (sym e ∙ z) (ap accepted q)
 
+  -- where the part that was asked returned r, and the branch saw b
+  pub is-said : (a b r : A) → got ≡ k → got ≡ 0 → r ≡ a → r ≡ b → accepted b ≡ outcome k a
+  is-said a b r e z q t = is-accepted a b e z (sym t ∙ q)
+
   -- and what it leaves
   pub leaves-all : (after before : A) → got ≡ k → (got ≡ 0 → ⊥) → before ≡ written k after before
   leaves-all after before e h = go k e
@@ -28,3 +32,5 @@ module _ {A : Type 0} (k got : ℕ) where
   writes-all after before now e z q = rw (sym e ∙ z) q
 
 pub ruleset outcomes = (is-refused, is-accepted)
+
+pub ruleset said = (is-refused, is-said)

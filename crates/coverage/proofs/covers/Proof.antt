@@ -1,7 +1,8 @@
 -- `coverage::covers` meets its contract. Assumes nothing.
 use borrow.Author.Needs.{needs}
 use Rattle.coverage.specs.Coverage.{coversOf}
-use Rattle.coverage.proofs.Entries.{covers-room, said}
+use Rattle.refusals.proofs.Outcomes.{said}
+use Rattle.coverage.proofs.Entries.{covers-room}
 use Rattle.coverage.proofs.covers.Statement.{statement}
 use Rattle.coverage.proofs.covers.Tie as tie
 

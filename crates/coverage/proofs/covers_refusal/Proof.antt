@@ -1,8 +1,7 @@
 -- `coverage::covers_refusal` meets its contract. Assumes nothing.
 use borrow.Author.Needs.{needs}
-use Rattle.refusals.proofs.Checks.{checks}
+use Rattle.refusals.proofs.Checks.{checks, at-most-64}
 use Rattle.coverage.specs.Coverage.{coversRefusal}
-use Rattle.coverage.proofs.Entries.{population-room}
 use Rattle.coverage.proofs.covers_refusal.Statement.{statement}
 use Rattle.coverage.proofs.covers_refusal.Tie as tie
 
@@ -20,6 +19,6 @@ covers-refusal-spec =
     (λ c κs. search needs)
     (λ c. search checks depth 16 fits 5000)
     (λ c. search checks depth 16 fits 5000)
-    (λ c κs. search population-room)
+    (λ c κs. search at-most-64)
     (λ c. search checks depth 16 fits 5000)
     (λ c. search checks depth 16 fits 5000))

@@ -1,7 +1,8 @@
 -- `coverage::survived_by` meets its contract. Assumes nothing.
 use borrow.Author.Needs.{needs}
 use Rattle.coverage.specs.Coverage.{survivedOf}
-use Rattle.coverage.proofs.Entries.{survived-room, said}
+use Rattle.refusals.proofs.Outcomes.{said}
+use Rattle.coverage.proofs.Entries.{survived-room}
 use Rattle.coverage.proofs.survived_by.Statement.{statement}
 use Rattle.coverage.proofs.survived_by.Tie as tie
 

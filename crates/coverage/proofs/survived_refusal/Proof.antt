@@ -1,8 +1,7 @@
 -- `coverage::survived_refusal` meets its contract. Assumes nothing.
 use borrow.Author.Needs.{needs}
-use Rattle.refusals.proofs.Checks.{checks}
+use Rattle.refusals.proofs.Checks.{checks, at-most-64}
 use Rattle.coverage.specs.Coverage.{survivedRefusal}
-use Rattle.coverage.proofs.Entries.{population-room}
 use Rattle.coverage.proofs.survived_refusal.Statement.{statement}
 use Rattle.coverage.proofs.survived_refusal.Tie as tie
 
@@ -15,6 +14,6 @@ survived-refusal-spec =
     (λ c. search checks depth 16 fits 5000)
     (λ c κs. search needs)
     (λ c. search checks depth 16 fits 5000)
-    (λ c κs. search population-room)
+    (λ c κs. search at-most-64)
     (λ c. search checks depth 16 fits 5000)
     (λ c. search checks depth 16 fits 5000))

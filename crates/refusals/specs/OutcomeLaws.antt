@@ -1,0 +1,11 @@
+-- What an outcome says of the number and the value that it was made of. Assumes nothing.
+use mathlib.Core.Path.{_≡_, refl, ap}
+use mathlib.Core.Logic.{_↔_}
+use Prim.Native.Nat.{ℕ, zero, suc}
+use native.Mathlib.Omega.{arith}
+use Rattle.refusals.specs.Outcome.{accepted, outcome}
+
+-- an input is accepted with the value b exactly if no number refuses it and its value is b
+pub accepted-means : {A : Type 0} (k : ℕ) (a b : A) → (outcome k a ≡ accepted b) ↔ ((k ≡ 0) × (a ≡ b))
+accepted-means zero a b = (λ e. (refl, cc), λ h. ap accepted (h .1))
+accepted-means (suc k) a b = (λ e. let z : _≡_ {A = ℕ} 0 1 = cc in absurd (omega arith), λ h. absurd (omega arith))
