@@ -42,10 +42,10 @@ pub ruleset unions = (union-start, union-more, union-done)
 
 -- ---- a loop that looks for a set that makes up the whole: u is the set at i together with those heard
 module _ (heard whole : ℕ) (faults : List ℕ) (i u : ℕ) where
-  pub completed : i < length faults → Missed 0 (completes heard whole) faults i → u ≡ bitOr (getD faults i 0) heard → u ≡ whole
+  pub completed : i < length faults → Missed (completes heard whole) faults i → u ≡ bitOr (getD faults i 0) heard → u ≡ whole
       → true ≡ any (completes heard whole) faults
-  completed h e q t = hit 0 (completes heard whole) faults i true h e (sym (eq-eqb (bitOr (getD faults i 0) heard) whole (sym q ∙ t))) refl
+  completed h e q t = hit (completes heard whole) faults i 0 true h e (sym (eq-eqb (bitOr (getD faults i 0) heard) whole (sym q ∙ t))) refl
 
-  pub incomplete : i < length faults → Missed 0 (completes heard whole) faults i → u ≡ bitOr (getD faults i 0) heard → (u ≡ whole → ⊥)
+  pub incomplete : i < length faults → Missed (completes heard whole) faults i → u ≡ bitOr (getD faults i 0) heard → (u ≡ whole → ⊥)
       → any (completes heard whole) faults ≡ any (completes heard whole) (drop (i + 1) faults)
-  incomplete h e q t = miss 0 (completes heard whole) faults i false h e (sym (ne-eqb (bitOr (getD faults i 0) heard) whole (λ w. t (q ∙ w)))) refl
+  incomplete h e q t = miss (completes heard whole) faults i 0 false h e (sym (ne-eqb (bitOr (getD faults i 0) heard) whole (λ w. t (q ∙ w)))) refl
