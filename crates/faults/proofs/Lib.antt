@@ -4,3 +4,4 @@ pub mod Prune
 pub mod Tables
 pub mod Answers
 pub mod Entry
+pub mod Examples

@@ -2,3 +2,4 @@
 pub mod Family
 pub mod Marks
 pub mod FaultList
+pub mod FaultListLaws
