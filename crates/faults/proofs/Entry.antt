@@ -10,7 +10,7 @@ use Rattle.lists.specs.All.{all}
 use Rattle.lists.specs.Below.{front}
 use Rattle.refusals.specs.First.{firstOf}
 use Rattle.refusals.specs.FirstLaws.{none-holds, first-then, otherwise}
-use Rattle.refusals.specs.Outcome.{refused, outcome, written}
+use Rattle.refusals.specs.Outcome.{Outcome, refused, outcome, written}
 use Rattle.refusals.proofs.Outcomes.{is-refused, leaves-all}
 use Rattle.refusals.specs.Limits.{isPopulation, isMask}
 use Rattle.refusals.specs.LimitLaws.{population-means}
@@ -44,18 +44,18 @@ module _ (n f : ℕ) (p : Profile) (got : ℕ) (e : got ≡ firstOf (inputCases 
     then : (room : ℕ) → faultRefusal n f p room ≡ firstOf (listCases (family n f p) n room)
     then room = both room ∙ ap (λ (k : ℕ). otherwise k (firstOf (listCases (family n f p) n room))) z
 
-    pub answers : (list : List ℕ) → listAnswer (family n f p) n (length list) ≡ faultListOf n f p (length list)
-    unfolding listAnswer faultListOf
-    answers list = ap (λ (k : ℕ). outcome k (length (maximals (family n f p) n))) (sym (then (length list)))
-
-    pub words : (list : List ℕ) → listWords (family n f p) n list ≡ faultWords n f p list
-    unfolding listWords faultWords
-    words list = ap (λ (k : ℕ). written k (front (maximals (family n f p) n) list) list) (sym (then (length list)))
+    pub passed-on : (list after : List ℕ) (r : Outcome ℕ) → (r ≡ listAnswer (family n f p) n (length list)) × (after ≡ listWords (family n f p) n list)
+        → (r ≡ faultListOf n f p (length list)) × (after ≡ faultWords n f p list)
+    unfolding listAnswer listWords faultListOf faultWords
+    passed-on list after r h = (
+      h .0 ∙ ap (λ (k : ℕ). outcome k (length (maximals (family n f p) n))) (sym (then (length list))),
+      h .1 ∙ ap (λ (k : ℕ). written k (front (maximals (family n f p) n) list) list) (sym (then (length list))),
+    )
 
     pub population : n ≤ 16
     population = population-means n .0 (not-false (isPopulation n) (none-holds (inputCases n f p []) refl .0 (sym e ∙ z) .0)) .1
 
-    pub accepted-input : Accepted n (p .domains) (p .«domain_count») (hasProbs p) (p .probs)
+    pub accepted-input : Accepted n p
     unfolding domainsFit probsFit domainsCounted
     accepted-input =
         let h = none-holds (inputCases n f p []) refl .0 (sym e ∙ z) in

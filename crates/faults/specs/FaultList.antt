@@ -4,8 +4,7 @@ use mathlib.Core.Path.{_≡_}
 use mathlib.Core.Bool.{Bool, true}
 use mathlib.Core.List.{List, [], _∷_}
 use lib.Dec.{leb}
-use lib.Ieee.{Float}
-use lib.ListN.{length, take}
+use lib.ListN.{length}
 use Rattle.lists.specs.All.{all}
 use Rattle.lists.specs.Below.{front}
 use Rattle.bitmap.specs.Mask.{allBelow}
@@ -15,7 +14,7 @@ use Rattle.refusals.specs.Outcome.{Outcome, refused, accepted, outcome, written
 use Rattle.refusals.specs.Limits.{isPopulation, isTolerance, isMask}
 use Rattle.floats.specs.Floats.{isProbability}
 use Rattle.profiles.specs.declared.Profile.{Profile}
-use Rattle.profiles.specs.Profile.{profileCases}
+use Rattle.profiles.specs.Profile.{hasProbs, domainsOf, probsOf, profileCases}
 use Rattle.maximal.specs.Maximal.{maximals}
 use Rattle.faults.specs.declared.Listed.{Listed}
 use Rattle.faults.specs.declared.Listed.the-variants.{Refused, Count}
@@ -51,8 +50,8 @@ faultListOf n f p room = outcome (faultRefusal n f p room) (length (maximals (fa
 unfoldable pub faultWords : ℕ → ℕ → Profile → List ℕ → List ℕ
 faultWords n f p list = written (faultRefusal n f p (length list)) (front (maximals (family n f p) n) list) list
 
--- what an unrefused profile's arrays are: at most 64 domains, each of members below n, and probabilities where they are known
-pub record Accepted (n : ℕ) (domains : List ℕ) (count : ℕ) (known : Bool) (probs : List Float) : Type 0 where
-  pub counted : count ≤ 64
-  pub members : all (isMask n) (take count domains) ≡ true
-  pub chances : known ≡ true → all isProbability (take n probs) ≡ true
+-- what an unrefused profile is: at most 64 domains, each of members below n, and probabilities where it has them
+pub record Accepted (n : ℕ) (p : Profile) : Type 0 where
+  pub counted : p .«domain_count» ≤ 64
+  pub members : all (isMask n) (domainsOf p) ≡ true
+  pub chances : hasProbs p ≡ true → all isProbability (probsOf n p) ≡ true

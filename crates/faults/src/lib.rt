@@ -3,13 +3,13 @@ ghost use mathlib.Core.Path.{_≡_};
 ghost use mathlib.Core.Bool.{true, cond};
 ghost use mathlib.Core.List.{[]};
 ghost use Prim.Native.Nat.{_^_, _<_, _≤_};
-ghost use lib.ListN.{length, take};
+ghost use lib.ListN.{length};
 ghost use Rattle.lists.specs.All.{all};
 ghost use Rattle.refusals.specs.First.{firstOf};
 ghost use Rattle.refusals.specs.Limits.{isMask, isUnder};
 ghost use Rattle.floats.specs.Floats.{isProbability, Fine};
 ghost use Rattle.maximal.specs.Tables.{flagged, Flags};
-ghost use Rattle.faults.specs.Family.{isSized, isAmong, familyOf};
+ghost use Rattle.faults.specs.Family.{isSized, isAmong, familyOf, family};
 ghost use Rattle.faults.specs.Marks.{Marked, isHit};
 ghost use Rattle.faults.specs.FaultList.{Accepted, inputCases, answer, listAnswer, listWords, faultListOf, faultWords};
 use profiles::Profile;
@@ -28,31 +28,10 @@ pub fn fault_list(n: usize, f: usize, p: Profile, list: &mut [u64]) -> Listed
     if no != 0 {
         return Listed::Refused(no);
     }
-    let known = p.prob_count != 0;
-    let probs = p.probs;
-    let domains = p.domains;
     if n <= 8 {
-        return small(
-            n,
-            f,
-            domains,
-            p.domain_count,
-            known,
-            probs,
-            p.threshold,
-            list,
-        );
+        return small(n, f, p, list);
     }
-    large(
-        n,
-        f,
-        domains,
-        p.domain_count,
-        known,
-        probs,
-        p.threshold,
-        list,
-    )
+    large(n, f, p, list)
 }
 
 fn input_refusal(n: usize, f: usize, p: Profile) -> u8
@@ -68,78 +47,34 @@ fn input_refusal(n: usize, f: usize, p: Profile) -> u8
 }
 
 // The fault list of at most 8 replicas: tables of 256 flags, so that a small population does not pay for a large one.
-fn small(
-    n: usize,
-    f: usize,
-    domains: [u64; 64],
-    count: usize,
-    known: bool,
-    probs: [f64; 16],
-    threshold: f64,
-    list: &mut [u64],
-) -> Listed
+fn small(n: usize, f: usize, p: Profile, list: &mut [u64]) -> Listed
     requires { ⌜ n ≤ 8 ⌝ }
-    requires { ⌜ Accepted n domains count known probs ⌝ }
-    ensures answer { λ r. ⌜ answer r ≡ listAnswer (familyOf f (take count domains) known (take n probs) threshold) n (length (now (list .entry))) ⌝ }
-    ensures words { λ r. ⌜ now (list .exit) ≡ listWords (familyOf f (take count domains) known (take n probs) threshold) n (now (list .entry)) ⌝ }
+    requires { ⌜ Accepted n p ⌝ }
+    ensures answer { λ r. ⌜ answer r ≡ listAnswer (family n f p) n (length (now (list .entry))) ⌝ }
+    ensures words { λ r. ⌜ now (list .exit) ≡ listWords (family n f p) n (now (list .entry)) ⌝ }
 {
     let mut table = blank_small();
     let mut over = blank_small();
-    with_tables(
-        n,
-        f,
-        domains,
-        count,
-        known,
-        probs,
-        threshold,
-        &mut table,
-        &mut over,
-        list,
-    )
+    with_tables(n, f, p, &mut table, &mut over, list)
 }
 
 // The fault list of at most 16 replicas.
-fn large(
-    n: usize,
-    f: usize,
-    domains: [u64; 64],
-    count: usize,
-    known: bool,
-    probs: [f64; 16],
-    threshold: f64,
-    list: &mut [u64],
-) -> Listed
+fn large(n: usize, f: usize, p: Profile, list: &mut [u64]) -> Listed
     requires { ⌜ n ≤ 16 ⌝ }
-    requires { ⌜ Accepted n domains count known probs ⌝ }
-    ensures answer { λ r. ⌜ answer r ≡ listAnswer (familyOf f (take count domains) known (take n probs) threshold) n (length (now (list .entry))) ⌝ }
-    ensures words { λ r. ⌜ now (list .exit) ≡ listWords (familyOf f (take count domains) known (take n probs) threshold) n (now (list .entry)) ⌝ }
+    requires { ⌜ Accepted n p ⌝ }
+    ensures answer { λ r. ⌜ answer r ≡ listAnswer (family n f p) n (length (now (list .entry))) ⌝ }
+    ensures words { λ r. ⌜ now (list .exit) ≡ listWords (family n f p) n (now (list .entry)) ⌝ }
 {
     let mut table = blank_large();
     let mut over = blank_large();
-    with_tables(
-        n,
-        f,
-        domains,
-        count,
-        known,
-        probs,
-        threshold,
-        &mut table,
-        &mut over,
-        list,
-    )
+    with_tables(n, f, p, &mut table, &mut over, list)
 }
 
 // The fault list, with two tables to work in of at least 2^n flags each.
 fn with_tables(
     n: usize,
     f: usize,
-    domains: [u64; 64],
-    count: usize,
-    known: bool,
-    probs: [f64; 16],
-    threshold: f64,
+    p: Profile,
     table: &mut [u8],
     over: &mut [u8],
     list: &mut [u64],
@@ -147,18 +82,22 @@ fn with_tables(
     requires { ⌜ n ≤ 16 ⌝ }
     requires { ⌜ 2 ^ n ≤ length (now table) ⌝ }
     requires { ⌜ 2 ^ n ≤ length (now over) ⌝ }
-    requires { ⌜ Accepted n domains count known probs ⌝ }
-    ensures answer { λ r. ⌜ answer r ≡ listAnswer (familyOf f (take count domains) known (take n probs) threshold) n (length (now (list .entry))) ⌝ }
-    ensures words { λ r. ⌜ now (list .exit) ≡ listWords (familyOf f (take count domains) known (take n probs) threshold) n (now (list .entry)) ⌝ }
+    requires { ⌜ Accepted n p ⌝ }
+    ensures answer { λ r. ⌜ answer r ≡ listAnswer (family n f p) n (length (now (list .entry))) ⌝ }
+    ensures words { λ r. ⌜ now (list .exit) ≡ listWords (family n f p) n (now (list .entry)) ⌝ }
 {
     let size = 1usize << n;
+    let domains = p.domains;
+    let count = p.domain_count;
+    let probs = p.probs;
+    let known = p.prob_count != 0;
     build(
         n,
         f,
         &domains[..count],
         known,
         &probs[..n],
-        threshold,
+        p.threshold,
         &mut table[..size],
         &mut over[..size],
         list,

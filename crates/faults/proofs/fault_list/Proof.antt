@@ -1,9 +1,6 @@
 -- `faults::fault_list` meets its contract. Assumes nothing.
-use mathlib.Core.Path.{_≡_, _∙_}
-use mathlib.Core.List.{[]}
-use native.Mathlib.Omega.{arith}
 use borrow.Author.Needs.{needs}
-use Rattle.faults.proofs.Entry.{refused-first, answers, words, population, accepted-input}
+use Rattle.faults.proofs.Entry.{refused-first, passed-on, population, accepted-input}
 use Rattle.faults.proofs.fault_list.Statement.{statement}
 use Rattle.faults.proofs.fault_list.Tie as tie
 
@@ -17,21 +14,18 @@ fault-list-spec =
     let a = i .before .before .args in
     refused-first (a .n) (a .f) (a .p) (i .input-refusal .result) (i .input-refusal .ensures) (a .list .now) (c .if1 .taken))
     (λ c κs.
-    let e = c .before .before .before .before .before in
+    let e = c .before .before in
     let i = e .before in
     let a = i .before .before .args in
     (c .before .if2 .taken, accepted-input (a .n) (a .f) (a .p) (i .input-refusal .result) (i .input-refusal .ensures) (e .if1 .left)))
     (λ c. search needs)
     (λ c.
-    let e = c .before .before .before .before .before .before .before .before in
+    let e = c .before .before .before .before .before in
     let i = e .before in
     let a = i .before .before .args in
-    let s = c .before .before .small .ensures in (
-      s .0 ∙ answers (a .n) (a .f) (a .p) (i .input-refusal .result) (i .input-refusal .ensures) (e .if1 .left) (a .list .now),
-      s .1 ∙ words (a .n) (a .f) (a .p) (i .input-refusal .result) (i .input-refusal .ensures) (e .if1 .left) (a .list .now),
-    ))
+    passed-on (a .n) (a .f) (a .p) (i .input-refusal .result) (i .input-refusal .ensures) (e .if1 .left) (a .list .now) _ _ (c .before .before .small .ensures))
     (λ c κs.
-    let e = c .before .before .before .before .before in
+    let e = c .before .before in
     let i = e .before in
     let a = i .before .before .args in (
       population (a .n) (a .f) (a .p) (i .input-refusal .result) (i .input-refusal .ensures) (e .if1 .left),
@@ -39,10 +33,7 @@ fault-list-spec =
     ))
     (λ c. search needs)
     (λ c.
-    let e = c .before .before .before .before .before .before .before .before in
+    let e = c .before .before .before .before .before in
     let i = e .before in
     let a = i .before .before .args in
-    let s = c .before .before .large .ensures in (
-      s .0 ∙ answers (a .n) (a .f) (a .p) (i .input-refusal .result) (i .input-refusal .ensures) (e .if1 .left) (a .list .now),
-      s .1 ∙ words (a .n) (a .f) (a .p) (i .input-refusal .result) (i .input-refusal .ensures) (e .if1 .left) (a .list .now),
-    )))
+    passed-on (a .n) (a .f) (a .p) (i .input-refusal .result) (i .input-refusal .ensures) (e .if1 .left) (a .list .now) _ _ (c .before .before .large .ensures)))

@@ -1,7 +1,8 @@
 -- `faults::with_tables` meets its contract. Assumes nothing.
-use mathlib.Core.Path.{sym}
+use mathlib.Core.Path.{_≡_, sym}
 use native.Mathlib.Omega.{arith}
 use borrow.Author.Needs.{needs}
+use lib.ListN.{length}
 use lib.Seq.{length-take-le}
 use Rattle.faults.proofs.Answers.{inside, sized, counted}
 use Rattle.faults.proofs.with_tables.Statement.{statement}
@@ -12,17 +13,30 @@ with-tables-spec =
     tie.close
     (tie.spec
     (λ c. search needs)
-    (λ c. search needs)
-    (λ c. let s = c .before .before .before .before in sym (length-take-le (s .args .count) (s .args .t3) (omega (arith, s .pre .1 .1 .1 .counted))))
-    (λ c. search needs)
-    (λ c. let s = c .before .before .before .before .before in sym (length-take-le (s .args .n) (s .args .t6) (omega arith)))
+    (λ c.
+    let s = c .before .before .before .before .before .before in
+    let l : length (s .args .p .domains) ≡ 64 = search needs in
+    omega (arith, s .pre .1 .1 .1 .counted))
+    (λ c.
+    let s = c .before .before .before .before .before .before .before in
+    let l : length (s .args .p .domains) ≡ 64 = search needs in
+    sym (length-take-le (s .args .p .«domain_count») (s .args .p .domains) (omega (arith, s .pre .1 .1 .1 .counted))))
+    (λ c.
+    let s = c .before .before .before .before .before .before .before in
+    let l : length (s .args .p .probs) ≡ 16 = search needs in
+    omega arith)
+    (λ c.
+    let s = c .before .before .before .before .before .before .before .before in
+    let l : length (s .args .p .probs) ≡ 16 = search needs in
+    sym (length-take-le (s .args .n) (s .args .p .probs) (omega arith)))
     (λ c. search inside)
     (λ c. search counted)
     (λ c. search inside)
     (λ c. search counted)
     (λ c κs.
-    let s = c .before .before .before .before .before .before .before .before in
-    (length-take-le (s .args .n) (s .args .t6) (omega arith), (search sized, (search sized, (s .pre .1 .1 .1 .members, s .pre .1 .1 .1 .chances)))))
+    let s = c .before .before .before .before .before .before .before .before .before .before .before in
+    let l : length (s .args .p .probs) ≡ 16 = search needs in
+    (length-take-le (s .args .n) (s .args .p .probs) (omega arith), (search sized, (search sized, (s .pre .1 .1 .1 .members, s .pre .1 .1 .1 .chances)))))
     (λ c. search needs)
     (λ c. search needs)
     (λ c. search needs)
