@@ -1,2 +1,3 @@
--- What an input that is not refused gives.
+-- What an input that is not refused gives, and worked values.
 pub mod Sound
+pub mod Examples
