@@ -18,6 +18,7 @@ use Rattle.lists.specs.AllLaws.{all-means, any-means}
 use Rattle.bitmap.specs.Mask.{bit, hasBit, allBelow, count}
 use Rattle.bitmap.specs.MaskLaws.{Within, bit-lt, bit-none, bit-or, same-bits, full, full-bit}
 use Rattle.bitmap.specs.Members.{Many, count-means, many-map}
+use Rattle.refusals.specs.Limits.{isMask}
 use Rattle.refusals.specs.OutcomeLaws.{accepted-means}
 use Rattle.refusals.specs.Outcome.{accepted}
 use Rattle.coverage.specs.Coverage.{rowIn, shareOf, unionOf, leaves, isCovered, coversRefusal, coversOf, spares, isSurvived, survivedRefusal, survivedOf}
@@ -209,4 +210,4 @@ survived-by-means n heard faults =
     fit : survivedRefusal n heard faults ≡ 0 → (isSurvived n heard faults ≡ true) ↔ Spared n heard faults
     fit z =
         let s = survived-fit n heard faults .0 z in
-        survived-means n heard faults (s .mask) (λ i l. let b = ltb-true (getD faults i 0) (allBelow n) (s .list .1 i l) in omega arith)
+        survived-means n heard faults (s .mask) (λ i l. ltb-true (getD faults i 0) (2 ^ n) (and-eq-true-iff (isMask n (getD faults i 0)) (not (eqb (getD faults i 0) (allBelow n))) .0 (s .list .1 i l) .0))

@@ -1,7 +1,7 @@
 -- The three ways to list the maximal sets of a family, and what the two tables that are lent for it are. Assumes nothing.
 use Prim.Native.Nat.{ℕ, _*_, _-_, _%_, _^_, _<_, _≤_}
 use native.Mathlib.Omega.{arith}
-use mathlib.Core.Path.{_≡_, refl, sym, ap, _∙_}
+use mathlib.Core.Path.{_≡_, sym, _∙_}
 use mathlib.Core.Bool.{Bool, true, false}
 use mathlib.Core.List.{List}
 use borrow.Author.Tests.{le-leb, lt-leb}

@@ -1,9 +1,9 @@
 -- How the input's refusals and the list's make up the entry's, and what an input that is not refused gives. Assumes nothing.
 use mathlib.Core.Path.{_≡_, refl, sym, ap, _∙_}
-use mathlib.Core.Bool.{Bool, true, false, not, _&&_, _||_, true≢false, and-eq-true-iff}
-use mathlib.Core.List.{List, []}
+use mathlib.Core.Bool.{true, not, _&&_, _||_, and-eq-true-iff}
+use mathlib.Core.List.{List}
 use Prim.Native.Nat.{ℕ, zero, suc, _≤_}
-use lib.Dec.{eqb, leb}
+use lib.Dec.{eqb}
 use lib.ListN.{length}
 use borrow.Author.Tests.{leb-true, not-false}
 use Rattle.lists.specs.All.{all}
@@ -12,20 +12,20 @@ use Rattle.refusals.specs.First.{firstOf}
 use Rattle.refusals.specs.FirstLaws.{none-holds, first-then, otherwise}
 use Rattle.refusals.specs.Outcome.{Outcome, refused, outcome, written}
 use Rattle.refusals.proofs.Outcomes.{is-refused, leaves-all}
-use Rattle.refusals.specs.Limits.{isPopulation, isMask}
+use Rattle.refusals.specs.Limits.{isPopulation}
 use Rattle.refusals.specs.LimitLaws.{population-means}
 use Rattle.floats.specs.Floats.{isProbability}
 use Rattle.profiles.specs.declared.Profile.{Profile}
-use Rattle.profiles.specs.Profile.{hasProbs, domainsOf, probsOf, isThreshold, domainsFit, probsFit, domainsCounted}
+use Rattle.profiles.specs.Profile.{hasProbs, probsOf, isThreshold, domainsFit, probsFit, domainsCounted}
 use Rattle.maximal.specs.Maximal.{maximals}
 use Rattle.faults.specs.Family.{family}
 use Rattle.faults.specs.FaultList.{Accepted, inputCases, listCases, faultRefusal, faultListOf, faultWords, listAnswer, listWords}
 
-module _ (n f : ℕ) (p : Profile) (got : ℕ) (e : got ≡ firstOf (inputCases n f p [])) where
+module _ (n f : ℕ) (p : Profile) (got : ℕ) (e : got ≡ firstOf (inputCases n f p)) where
   both : (room : ℕ) → faultRefusal n f p room ≡ otherwise got (firstOf (listCases (family n f p) n room))
   unfolding faultRefusal
   both room =
-      first-then (inputCases n f p []) (listCases (family n f p) n room) refl
+      first-then (inputCases n f p) (listCases (family n f p) n room) refl
       ∙ ap (λ (k : ℕ). otherwise k (firstOf (listCases (family n f p) n room))) (sym e)
 
   -- the input is refused
@@ -53,12 +53,12 @@ module _ (n f : ℕ) (p : Profile) (got : ℕ) (e : got ≡ firstOf (inputCases 
     )
 
     pub population : n ≤ 16
-    population = population-means n .0 (not-false (isPopulation n) (none-holds (inputCases n f p []) refl .0 (sym e ∙ z) .0)) .1
+    population = population-means n .0 (not-false (isPopulation n) (none-holds (inputCases n f p) refl .0 (sym e ∙ z) .0)) .1
 
     pub accepted-input : Accepted n p
     unfolding domainsFit probsFit domainsCounted
     accepted-input =
-        let h = none-holds (inputCases n f p []) refl .0 (sym e ∙ z) in
+        let h = none-holds (inputCases n f p) refl .0 (sym e ∙ z) in
         record {
           counted = leb-true (p .«domain_count») 64 (not-false (domainsCounted p) (h .1 .1 .1 .1 .0));
           members = not-false (domainsFit n p) (h .1 .1 .0);

@@ -1,9 +1,9 @@
 -- Worked fault lists, computed by the checker: the site sheet's lines, each refusal, and which of two comes first. Assumes nothing.
 use mathlib.Core.Path.{_≡_, refl}
-use mathlib.Core.Bool.{Bool, true, false}
+use mathlib.Core.Bool.{false}
 use mathlib.Core.List.{List, [], _∷_, _++_, map}
-use Prim.Native.Nat.{ℕ, _-_, _^_}
-use lib.IntN.{pos, negsuc}
+use Prim.Native.Nat.{ℕ, _-_}
+use lib.IntN.{negsuc}
 use lib.Ieee.{Float, nan, fin, mul, le, lt}
 use lib.ListN.{length, replicate}
 use Rattle.lists.specs.Below.{someBelow, thoseBelow, front}

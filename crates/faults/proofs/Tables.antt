@@ -1,5 +1,5 @@
 -- The finished table: the sets of f replicas, then the domains, then, where probabilities are known, the probable sets. Assumes nothing.
-use Prim.Native.Nat.{ℕ, _<_}
+use Prim.Native.Nat.{ℕ}
 use native.Mathlib.Nat.{div-one, mod-one}
 use native.Mathlib.Omega.{arith}
 use mathlib.Core.Path.{_≡_, refl, _∙_}

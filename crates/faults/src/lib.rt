@@ -1,7 +1,6 @@
 // The fault list: the maximal sets of replicas whose failure a committed value must survive (crash_sets, Tolerance::new).
 ghost use mathlib.Core.Path.{_≡_};
 ghost use mathlib.Core.Bool.{true, cond};
-ghost use mathlib.Core.List.{[]};
 ghost use Prim.Native.Nat.{_^_, _<_, _≤_};
 ghost use lib.ListN.{length};
 ghost use Rattle.lists.specs.All.{all};
@@ -35,7 +34,7 @@ pub fn fault_list(n: usize, f: usize, p: Profile, list: &mut [u64]) -> Listed
 }
 
 fn input_refusal(n: usize, f: usize, p: Profile) -> u8
-    ensures { λ r. ⌜ r ≡ firstOf (inputCases n f p []) ⌝ }
+    ensures { λ r. ⌜ r ≡ firstOf (inputCases n f p) ⌝ }
 {
     if !refusals::is_population(n) {
         return refusals::POPULATION;

@@ -2,16 +2,16 @@
 -- laws are the fields of a need's record, so that `search` finds them: r is what the test's function returned at k, and then what the branch saw.
 -- Assumes nothing.
 use mathlib.Core.Path.{_≡_, refl, sym, ap, _∙_}
-use mathlib.Core.Bool.{Bool, true, false, cond}
+use mathlib.Core.Bool.{Bool, true, false}
 use mathlib.Core.List.{List, [], _∷_, _++_, append-nil, append-assoc}
-use Prim.Native.Nat.{ℕ, zero, suc, _+_, _≤_, _<_, zero-le}
+use Prim.Native.Nat.{ℕ, suc, _+_, _≤_, _<_}
 use native.Mathlib.Nat.{le-refl, le-trans}
 use native.Mathlib.Decide.{le-ind}
 use native.Mathlib.Numerals.{add-one}
 use native.Mathlib.Omega.{arith}
 use lib.ListN.{length, set, length-append, length-drop}
 use lib.Seq.{set-append-seam, drop-cons}
-use Rattle.lists.specs.Below.{someBelow, thoseBelow, front}
+use Rattle.lists.specs.Below.{thoseBelow, front}
 
 -- ---- one list at the front of another
 module _ (xs l : List ℕ) where
@@ -26,14 +26,6 @@ module _ (xs l : List ℕ) where
 
 module _ (f : ℕ → Bool) where
   -- ---- a turn
-  pub some-yes : (k : ℕ) → f k ≡ true → someBelow f (k + 1) ≡ true
-  unfolding someBelow
-  some-yes k e = rw (add-one, e)
-
-  pub some-no : (k : ℕ) → f k ≡ false → someBelow f (k + 1) ≡ someBelow f k
-  unfolding someBelow
-  some-no k e = rw (add-one, e)
-
   pub those-yes : (k : ℕ) → f k ≡ true → thoseBelow f (k + 1) ≡ thoseBelow f k ++ (k ∷ [])
   unfolding thoseBelow
   those-yes k e = rw (add-one, e)
@@ -42,16 +34,7 @@ module _ (f : ℕ → Bool) where
   unfolding thoseBelow
   those-no k e = rw (add-one, e) (append-nil (thoseBelow f k))
 
-  -- ---- no more than were tried, and with more tried not fewer
-  pub those-le : (k : ℕ) → length (thoseBelow f k) ≤ k
-  unfolding thoseBelow
-  those-le zero = zero-le
-  those-le (suc k) = simp length-append (go (f k) (those-le k))
-    where
-      go : (b : Bool) → length (thoseBelow f k) ≤ k → length (thoseBelow f k) + length (cond b (k ∷ []) []) ≤ suc k
-      go true h = omega arith
-      go false h = omega arith
-
+  -- ---- with more tried there are not fewer
   step : (k : ℕ) → length (thoseBelow f k) ≤ length (thoseBelow f (suc k))
   unfolding thoseBelow
   step k = simp length-append (omega arith)

@@ -1,6 +1,6 @@
 -- What a loop that goes up a list keeps: what is left of the list says the same as the whole. The premises of each law are the fields of a need's record,
 -- so that `search` finds them. Assumes nothing.
-use mathlib.Core.Path.{_≡_, refl, sym, ap, _∙_}
+use mathlib.Core.Path.{_≡_, sym, ap, _∙_}
 use mathlib.Core.Bool.{Bool, true, false, _&&_, _||_}
 use mathlib.Core.List.{List, foldl}
 use Prim.Native.Nat.{ℕ, suc, _+_, _≤_, _<_}

@@ -50,3 +50,9 @@ module _ {A : Type 0} (p : A → Bool) (d : A) where
 
   pub any-means : (xs : List A) → (any p xs ≡ true) ↔ Somewhere xs
   any-means xs = (found xs, λ s. shown xs (s .place) (s .inside) (s .passes))
+
+-- tests that agree
+module _ {A : Type 0} (p q : A → Bool) (same : (x : A) → p x ≡ q x) where
+  pub all-same : (xs : List A) → all p xs ≡ all q xs
+  all-same [] = refl
+  all-same (x ∷ xs) = rw (same x, all-same xs)

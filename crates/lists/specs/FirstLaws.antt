@@ -1,7 +1,7 @@
 -- The first element of a list in order that passes a test is the least that passes, found in one pass over the list as it stands. So a definition may
 -- speak of the first in order, and the code need not sort. Assumes nothing.
 use mathlib.Core.Path.{_≡_, refl, sym, ap, _∙_}
-use mathlib.Core.Logic.{_⊎_, inl, inr}
+use mathlib.Core.Logic.{inl, inr}
 use mathlib.Core.List.{List, [], _∷_, foldl}
 use mathlib.Core.Bool.{Bool, true, false, cond, true≢false}
 use mathlib.Core.Option.{Option, none, some}

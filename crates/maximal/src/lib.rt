@@ -7,7 +7,7 @@ ghost use Rattle.lists.specs.Below.{front};
 ghost use Rattle.maximal.specs.Maximal.{isCoveredBy, isMaximal, maximals};
 ghost use Rattle.maximal.specs.Tables.{flagged, Covers};
 
-// Says of each set, in `over`, whether some proper superset of it is in the family, from the largest mask down. A part.
+// Says of each set, in `over`, whether some proper superset of it is in the family, from the largest mask down. A part: both tables have 2^n flags.
 pub fn cover(table: &[u8], over: &mut [u8], n: usize)
     requires { ⌜ length (now table) ≡ 2 ^ n ⌝ }
     requires { ⌜ length (now over) ≡ 2 ^ n ⌝ }
@@ -21,7 +21,7 @@ pub fn cover(table: &[u8], over: &mut [u8], n: usize)
     }
 }
 
-// How many maximal members there are. A part.
+// How many maximal members there are. A part: both tables have 2^n flags, and `over` is as `cover` leaves it.
 pub fn count(table: &[u8], over: &[u8], n: usize) -> usize
     requires { ⌜ length (now table) ≡ 2 ^ n ⌝ }
     requires { ⌜ length (now over) ≡ 2 ^ n ⌝ }
@@ -39,7 +39,7 @@ pub fn count(table: &[u8], over: &[u8], n: usize) -> usize
     c
 }
 
-// Writes the maximal members, rising, to the front of `list`, which has room for them. A part.
+// Writes the maximal members, rising, to the front of `list`, which has room for them. A part, as `count`.
 pub fn write(table: &[u8], over: &[u8], n: usize, list: &mut [u64])
     requires { ⌜ length (now table) ≡ 2 ^ n ⌝ }
     requires { ⌜ length (now over) ≡ 2 ^ n ⌝ }

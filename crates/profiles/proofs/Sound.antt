@@ -1,20 +1,16 @@
 -- What an input of `unreliability` that is not refused gives. Assumes nothing.
 use mathlib.Core.Path.{_≡_, refl, sym, _∙_}
-use mathlib.Core.List.{[], _∷_}
 use Prim.Native.Nat.{ℕ, _<_}
 use native.Mathlib.Omega.{arith}
 use borrow.Author.Tests.{ltb-true, not-false}
-use Rattle.refusals.specs.Numbers.{POPULATION, REPLICA}
-use Rattle.refusals.specs.First.{unless}
 use Rattle.refusals.specs.FirstLaws.{none-holds}
 use Rattle.refusals.specs.Limits.{isPopulation, isReplica}
 use Rattle.refusals.specs.LimitLaws.{population-means}
 use Rattle.profiles.specs.declared.Profile.{Profile}
-use Rattle.profiles.specs.Profile.{profileCases}
-use Rattle.profiles.specs.Unreliability.{unreliabilityRefusal}
+use Rattle.profiles.specs.Unreliability.{unreliabilityCases, unreliabilityRefusal}
 
 pub peer-room : (n peer : ℕ) (p : Profile) (got : ℕ) → got ≡ unreliabilityRefusal n peer p → got ≡ 0 → peer < 16
 unfolding unreliabilityRefusal
 peer-room n peer p got e z =
-    let h = none-holds (unless (isPopulation n) POPULATION ∷ unless (isReplica n peer) REPLICA ∷ profileCases n p []) refl .0 (sym e ∙ z) in
+    let h = none-holds (unreliabilityCases n peer p) refl .0 (sym e ∙ z) in
     omega (arith, population-means n .0 (not-false (isPopulation n) (h .0)), ltb-true peer n (not-false (isReplica n peer) (h .1 .0)))

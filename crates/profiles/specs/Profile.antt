@@ -41,5 +41,5 @@ unfoldable pub domainsCounted : Profile → Bool
 domainsCounted p = leb (p .«domain_count») 64
 
 -- the cases in which a profile of n replicas is refused
-abbrev pub profileCases : ℕ → Profile → List Case → List Case
-profileCases n p rest = unless (domainsFit n p) MEMBER ∷ unless (probsFit n p) PROBABILITIES ∷ unless (domainsCounted p) DOMAINS ∷ rest
+abbrev pub profileCases : ℕ → Profile → List Case
+profileCases n p = unless (domainsFit n p) MEMBER ∷ unless (probsFit n p) PROBABILITIES ∷ unless (domainsCounted p) DOMAINS ∷ []

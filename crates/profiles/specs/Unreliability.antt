@@ -1,11 +1,11 @@
 -- How likely a peer seems to fail. Assumes nothing.
 use Prim.Native.Nat.{ℕ}
-use mathlib.Core.Bool.{Bool, cond}
-use mathlib.Core.List.{List, [], _∷_}
+use mathlib.Core.Bool.{cond}
+use mathlib.Core.List.{List, _∷_}
 use lib.Ieee.{Float, nan}
 use lib.ListN.{getD}
 use Rattle.refusals.specs.Numbers.{POPULATION, REPLICA}
-use Rattle.refusals.specs.First.{unless, firstOf}
+use Rattle.refusals.specs.First.{Case, unless, firstOf}
 use Rattle.refusals.specs.Outcome.{Outcome, refused, accepted, outcome}
 use Rattle.refusals.specs.Limits.{isPopulation, isReplica}
 use Rattle.floats.specs.Floats.{plusZero, larger}
@@ -22,8 +22,11 @@ given p peer = cond (hasProbs p) (getD (p .probs) peer nan) plusZero
 abbrev pub chanceOf : Profile → ℕ → Float → Float
 chanceOf p peer down = cond (p .runtime) (larger (given p peer) down) (given p peer)
 
+abbrev pub unreliabilityCases : ℕ → ℕ → Profile → List Case
+unreliabilityCases n peer p = unless (isPopulation n) POPULATION ∷ unless (isReplica n peer) REPLICA ∷ profileCases n p
+
 unfoldable pub unreliabilityRefusal : ℕ → ℕ → Profile → ℕ
-unreliabilityRefusal n peer p = firstOf (unless (isPopulation n) POPULATION ∷ unless (isReplica n peer) REPLICA ∷ profileCases n p [])
+unreliabilityRefusal n peer p = firstOf (unreliabilityCases n peer p)
 
 -- what an answer is: the number that refuses, or the peer's unreliability
 abbrev pub answer : Estimate → Outcome Float

@@ -1,11 +1,8 @@
 // ReliabilityProfile: what is known of how the replicas fail, its check, and the unreliability of a peer.
 ghost use mathlib.Core.Path.{_≡_};
 ghost use Prim.Native.Nat.{_<_, _≤_};
-ghost use mathlib.Core.List.{[]};
-ghost use lib.ListN.{length, take};
 ghost use Rattle.lists.specs.All.{all};
 ghost use Rattle.refusals.specs.First.{firstOf};
-ghost use Rattle.refusals.specs.Limits.{isMask};
 ghost use Rattle.floats.specs.Floats.{isProbability};
 ghost use Rattle.profiles.specs.Profile.{isThreshold, domainsFit, probsFit, profileCases};
 ghost use Rattle.profiles.specs.Unreliability.{given, chanceOf, unreliabilityRefusal, answer, unreliabilityOf};
@@ -40,7 +37,7 @@ pub fn unreliability(n: usize, peer: ReplicaId, p: Profile, down: f64) -> Estima
 // The number that refuses a profile of n replicas, or 0. A part: the population has been tested.
 pub fn profile_refusal(n: usize, p: Profile) -> u8
     requires { ⌜ n ≤ 16 ⌝ }
-    ensures { λ r. ⌜ r ≡ firstOf (profileCases n p []) ⌝ }
+    ensures { λ r. ⌜ r ≡ firstOf (profileCases n p) ⌝ }
 {
     if !domains_fit(n, p) {
         return refusals::MEMBER;
@@ -90,18 +87,12 @@ fn given(peer: ReplicaId, p: Profile) -> f64
     probs[k]
 }
 
-// Whether each domain has members below n alone.
+// Whether each domain that is counted, of the 64 words, has members below n alone.
 fn domains_fit(n: usize, p: Profile) -> bool
     ensures { λ r. ⌜ r ≡ domainsFit n p ⌝ }
 {
     let domains = p.domains;
-    are_domains(n, domains, p.domain_count)
-}
-
-// The same of the first `count` words, at most all.
-fn are_domains(n: usize, domains: [u64; 64], count: usize) -> bool
-    ensures { λ r. ⌜ r ≡ all (isMask n) (take count domains) ⌝ }
-{
+    let count = p.domain_count;
     if 64 <= count {
         return refusals::are_masks(n, &domains);
     }
@@ -120,17 +111,10 @@ fn probs_fit(n: usize, p: Profile) -> bool
         return false;
     }
     let probs = p.probs;
-    if !are_probabilities(n, probs) {
+    if !all_probabilities(&probs[..n]) {
         return false;
     }
     is_threshold(p.threshold)
-}
-
-fn are_probabilities(n: usize, probs: [f64; 16]) -> bool
-    requires { ⌜ n ≤ 16 ⌝ }
-    ensures { λ r. ⌜ r ≡ all isProbability (take n probs) ⌝ }
-{
-    all_probabilities(&probs[..n])
 }
 
 fn all_probabilities(ps: &[f64]) -> bool

@@ -2,8 +2,7 @@
 -- `search outcomes`. Assumes nothing.
 use mathlib.Core.Path.{_≡_, refl, sym, ap, _∙_}
 use Prim.Native.Nat.{ℕ, zero, suc}
-use native.Mathlib.Nat.{suc-ne-zero}
-use Rattle.refusals.specs.Outcome.{Outcome, refused, accepted, outcome, written}
+use Rattle.refusals.specs.Outcome.{refused, accepted, outcome, written}
 
 module _ {A : Type 0} (k got : ℕ) where
   pub is-refused : (a : A) → got ≡ k → (got ≡ 0 → ⊥) → refused got ≡ outcome k a
@@ -27,9 +26,6 @@ module _ {A : Type 0} (k got : ℕ) where
       go : (k : ℕ) → got ≡ k → before ≡ written k after before
       go zero e = absurd (h e)
       go (suc k) e = refl
-
-  pub writes-all : (after before now : A) → got ≡ k → got ≡ 0 → now ≡ after → now ≡ written k after before
-  writes-all after before now e z q = rw (sym e ∙ z) q
 
 pub ruleset outcomes = (is-refused, is-accepted)
 

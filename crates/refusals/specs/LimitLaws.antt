@@ -1,19 +1,19 @@
 -- What each range check says: the facts that a passed check gives. Assumes nothing.
-use mathlib.Core.Path.{_≡_, refl, sym, ap, _∙_}
+use mathlib.Core.Path.{_≡_, ap, _∙_}
 use mathlib.Core.Logic.{_↔_}
-use mathlib.Core.Bool.{Bool, true, false, not, _&&_, and-eq-true-iff}
+use mathlib.Core.Bool.{Bool, true, not, _&&_, and-eq-true-iff}
 use mathlib.Core.List.{List}
 use Prim.Native.Nat.{ℕ, _-_, _^_, _≤_, _<_}
 use native.Mathlib.Decide.{decLt}
 use native.Mathlib.Omega.{arith}
 use lib.Dec.{leb, eqb}
-use lib.ListN.{length, getD}
-use borrow.Author.Tests.{leb-true, le-leb, ltb-true, lt-ltb, eqb-false, ne-eqb, not-true}
+use lib.ListN.{length}
+use borrow.Author.Tests.{leb-true, le-leb, ltb-true, lt-ltb, le-ltb, eqb-false, eq-eqb, ne-eqb, not-true}
 use Rattle.lists.specs.All.{all}
 use Rattle.lists.specs.AllLaws.{Each, all-means}
 use Rattle.bitmap.specs.Mask.{bit, allBelow}
-use Rattle.bitmap.specs.MaskLaws.{below-bit, bits-below, full-bit, full}
-use Rattle.refusals.specs.Limits.{isPopulation, isShards, isQuorum, isFaultSet, isFaultList}
+use Rattle.bitmap.specs.MaskLaws.{below-means, full-bit, full}
+use Rattle.refusals.specs.Limits.{isPopulation, isShards, isQuorum, isMask, isFaultSet, isFaultList, isUnder}
 
 -- a bound and what else is tested
 bound : (a b : ℕ) (t : Bool) → ((leb a b && t) ≡ true) ↔ ((a ≤ b) × (t ≡ true))
@@ -52,16 +52,28 @@ pub fault-set-means : (n f : ℕ)
     → (isFaultSet n f ≡ true) ↔ (((s : ℕ) → n ≤ s → bit f s ≡ 0) × (((s : ℕ) → s < n → bit f s ≡ 1) → ⊥))
 fault-set-means n f = (
   λ e.
-      let l : f < 2 ^ n - 1 = ltb-true f (2 ^ n - 1) e in
-      (λ s h. below-bit n f s (omega arith) h, λ all. let q = full n f (omega arith) all in omega arith),
-  λ h. lt-ltb f (2 ^ n - 1) (low (bits-below n f (h .0)) (h .1) (decLt f (2 ^ n - 1))),
+      let p = and-eq-true-iff (isMask n f) (not (eqb f (allBelow n))) .0 e in (
+        below-means n f .0 (p .0),
+        λ all. eqb-false f (allBelow n) (not-true (eqb f (allBelow n)) (p .1)) (full n f (ltb-true f (2 ^ n) (p .0)) all),
+      ),
+  λ h.
+      and-eq-true-iff (isMask n f) (not (eqb f (allBelow n))) .1 (
+        below-means n f .1 (h .0),
+        ap not (ne-eqb f (allBelow n) (λ (e : f ≡ allBelow n). h .1 (λ s k. ap (λ (m : ℕ). bit m s) e ∙ full-bit n s k))),
+      ),
 )
+
+-- as a number it is below the mask of all n
+pub fault-set-under : (n f : ℕ) → isUnder (allBelow n) f ≡ isFaultSet n f
+fault-set-under n f = go (decLt f (allBelow n)) (decLt f (2 ^ n))
   where
-    low : f < 2 ^ n → (((s : ℕ) → s < n → bit f s ≡ 1) → ⊥) → Dec (f < 2 ^ n - 1) → f < 2 ^ n - 1
-    low l h (yes y) = y
-    low l h (no x) =
-        let e : f ≡ 2 ^ n - 1 = omega arith in
-        absurd (h (λ s k. ap (λ (m : ℕ). bit m s) e ∙ full-bit n s k))
+    go : Dec (f < allBelow n) → Dec (f < 2 ^ n) → isUnder (allBelow n) f ≡ isFaultSet n f
+    go (yes l) (yes k) = rw (lt-ltb f (allBelow n) l, lt-ltb f (2 ^ n) k, ne-eqb f (allBelow n) (λ (e : f ≡ allBelow n). omega arith))
+    go (yes l) (no k) = absurd (omega arith)
+    go (no l) (yes k) =
+        let e : f ≡ allBelow n = omega arith in
+        rw (le-ltb f (allBelow n) (omega arith), lt-ltb f (2 ^ n) k, eq-eqb f (allBelow n) e)
+    go (no l) (no k) = rw (le-ltb f (allBelow n) (omega arith), le-ltb f (2 ^ n) (omega arith))
 
 -- a fault list has a set, and each of its sets is a fault set
 pub fault-list-means : (n : ℕ) (faults : List ℕ) → (isFaultList n faults ≡ true) ↔ ((length faults ≡ 0 → ⊥) × Each (isFaultSet n) 0 faults)

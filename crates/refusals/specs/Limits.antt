@@ -43,14 +43,14 @@ isMask n m = isBelow n m
 abbrev pub isRow : ℕ → ℕ → Bool
 isRow w row = isBelow w row
 
--- a mask below a limit, as a number
-abbrev pub isUnder : ℕ → ℕ → Bool
-isUnder limit m = ltb m limit
-
--- a set of some of n replicas, and not of all: as a number, below the mask of all
+-- a set of some of n replicas, and not of all
 abbrev pub isFaultSet : ℕ → ℕ → Bool
-isFaultSet n f = isUnder (allBelow n) f
+isFaultSet n f = isMask n f && not (eqb f (allBelow n))
 
--- some fault sets
+-- some sets, and each of them such a one
 unfoldable pub isFaultList : ℕ → List ℕ → Bool
 isFaultList n faults = not (eqb (length faults) 0) && all (isFaultSet n) faults
+
+-- a part of these: a mask below a limit, as a number
+abbrev pub isUnder : ℕ → ℕ → Bool
+isUnder limit m = ltb m limit

@@ -1,6 +1,5 @@
 -- `bitmap::run` meets its contract. Assumes nothing.
 use mathlib.Core.Path.{sym, ap}
-use native.Mathlib.Omega.{arith}
 use borrow.Author.Needs.{needs}
 use Rattle.bitmap.specs.Mask.{run, gather}
 use Rattle.bitmap.proofs.Words.{ones-shl}
