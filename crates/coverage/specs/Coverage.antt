@@ -39,6 +39,10 @@ leaves n d heard row fault = leb d (count (unionOf row heard fault n))
 unfoldable pub isCovered : ℕ → ℕ → ℕ → (ℕ → ℕ) → List ℕ → Bool
 isCovered n d heard row faults = not (eqb heard 0) && all (leaves n d heard row) faults
 
+-- at least a quorum is heard, and coverage holds
+unfoldable pub commits : ℕ → ℕ → ℕ → ℕ → (ℕ → ℕ) → List ℕ → Bool
+commits n quorum d heard row faults = leb quorum (count heard) && isCovered n d heard row faults
+
 abbrev pub coversCases : ℕ → ℕ → ℕ → ℕ → List ℕ → List ℕ → List Case
 coversCases n d w heard rows faults =
     unless (isPopulation n) POPULATION

@@ -10,7 +10,7 @@ use native.Mathlib.Nat.{not-suc-le-zero, le-step, le-refl, eq-or-lt-of-le, le-of
 use native.Mathlib.Decide.{ℕ-discrete}
 use native.Mathlib.Omega.{arith}
 use lib.Bits.{bitOr, or-lt}
-use lib.Dec.{eqb}
+use lib.Dec.{eqb, leb}
 use lib.ListN.{length, getD}
 use borrow.Author.Tests.{eqb-true, eqb-false, eq-eqb, ne-eqb, leb-true, le-leb, ltb-true, not-true}
 use Rattle.lists.specs.All.{all}
@@ -21,7 +21,7 @@ use Rattle.bitmap.specs.Members.{Many, count-means, many-map}
 use Rattle.refusals.specs.Limits.{isMask}
 use Rattle.refusals.specs.OutcomeLaws.{accepted-means}
 use Rattle.refusals.specs.Outcome.{accepted}
-use Rattle.coverage.specs.Coverage.{rowIn, shareOf, unionOf, leaves, isCovered, coversRefusal, coversOf, spares, isSurvived, survivedRefusal, survivedOf}
+use Rattle.coverage.specs.Coverage.{rowIn, shareOf, unionOf, leaves, isCovered, commits, coversRefusal, coversOf, spares, isSurvived, survivedRefusal, survivedOf}
 use Rattle.coverage.specs.RefusalLaws.{survived-fit}
 
 -- ---- which shards are left
@@ -112,6 +112,19 @@ covered-means n d heard row faults = (
         all-means (leaves n d heard row) 0 faults .1 (λ i l. leaves-means n d heard row (getD faults i 0) .1 (s .each-set i l)),
       ),
 )
+
+-- there are a quorum of pairwise different replicas heard, and their rows survive
+pub commits-means : (n quorum d heard : ℕ) (row : ℕ → ℕ) (faults : List ℕ)
+    → (commits n quorum d heard row faults ≡ true) ↔ (Many quorum (λ s. bit heard s ≡ 1) × Survives n d heard row faults)
+unfolding commits
+commits-means n quorum d heard row faults =
+    let a = and-eq-true-iff (leb quorum (count heard)) (isCovered n d heard row faults) in
+    let q = count-means quorum heard in
+    let c = covered-means n d heard row faults in
+    (
+      λ e. (q .0 (leb-true quorum (count heard) (a .0 e .0)), c .0 (a .0 e .1)),
+      λ h. a .1 (le-leb quorum (count heard) (q .1 (h .0)), c .1 (h .1)),
+    )
 
 -- ---- more heard, more shards in the rows, a smaller set: none of these loses a shard
 

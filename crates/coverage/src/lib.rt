@@ -3,7 +3,7 @@ ghost use mathlib.Core.Path.{_≡_};
 ghost use Prim.Native.Nat.{_≤_, _<_};
 ghost use lib.ListN.{length};
 ghost use Rattle.lists.specs.All.{all, any};
-ghost use Rattle.coverage.specs.Coverage.{rowIn, shareOf, unionOf, leaves, isCovered, coversRefusal, coverage, coversOf, completes, isSurvived, survivedRefusal, survival, survivedOf};
+ghost use Rattle.coverage.specs.Coverage.{rowIn, shareOf, unionOf, leaves, isCovered, commits, coversRefusal, coverage, coversOf, completes, isSurvived, survivedRefusal, survival, survivedOf};
 use bitmap::ReplicaId;
 
 pub enum Coverage {
@@ -55,6 +55,17 @@ pub fn is_covered(n: usize, d: usize, heard: u64, rows: &[u64], faults: &[u64]) 
         return false;
     }
     all_leave(n, d, heard, rows, faults)
+}
+
+// Whether it commits: at least a quorum is heard, and their rows survive every listed set. A part, as is_covered.
+pub fn commits(n: usize, quorum: usize, d: usize, heard: u64, rows: &[u64], faults: &[u64]) -> bool
+    requires { ⌜ n ≤ length (now rows) ⌝ }
+    ensures { λ r. ⌜ r ≡ commits n quorum d heard (rowIn (now (rows .entry))) (now (faults .entry)) ⌝ }
+{
+    if bitmap::count(heard) < quorum {
+        return false;
+    }
+    is_covered(n, d, heard, rows, faults)
 }
 
 fn covers_refusal(n: usize, d: usize, w: usize, heard: u64, rows: &[u64], faults: &[u64]) -> u8

@@ -1,0 +1,210 @@
+// The tally of accept replies for one value at one ballot (handle_msg_accept_reply, after the value id test): the opening, and what a reply does to it.
+ghost use mathlib.Core.Path.{_≡_};
+ghost use Prim.Native.Nat.{_≤_, _<_};
+ghost use Rattle.tally.specs.Tally.{openRefusal, fresh, openingOf, rowWith, noted, isCommitting, told, replyRefusal, answer, replyOf, tallyAfter};
+use bitmap::ReplicaId;
+
+// Who has replied, and the shards that each has named. The row of a replica not heard has no meaning.
+pub struct Tally {
+    pub population: usize,
+    pub quorum: usize,
+    pub data_shards: usize,
+    pub width: usize,
+    pub ballot: u64,
+    pub value_high: u64,
+    pub value_low: u64,
+    pub heard: u64,
+    pub committed: bool,
+    pub rows: [u64; 16],
+}
+
+// The number that refuses, beside a tally of nothing; or 0, beside the tally.
+pub struct Opening {
+    pub refusal: u8,
+    pub tally: Tally,
+}
+
+pub enum Answer {
+    Refused(u8),
+    Waiting,
+    Committed,
+    AlreadyCommitted,
+}
+
+// The answer, and the tally as the reply leaves it.
+pub struct Replied {
+    pub answer: Answer,
+    pub tally: Tally,
+}
+
+// A tally that has heard nobody.
+pub fn open(n: usize, quorum: usize, d: usize, w: usize, ballot: u64, high: u64, low: u64) -> Opening
+    ensures { λ r. ⌜ r ≡ openingOf n quorum d w ballot high low ⌝ }
+{
+    let no = open_refusal(n, quorum, d, w);
+    if no != 0 {
+        return Opening { refusal: no, tally: fresh(0, 0, 0, 0, 0, 0, 0) };
+    }
+    Opening { refusal: 0, tally: fresh(n, quorum, d, w, ballot, high, low) }
+}
+
+// The reply with its row, counted: by value.
+pub fn reply(
+    t: Tally,
+    source: ReplicaId,
+    ballot: u64,
+    high: u64,
+    low: u64,
+    row: u64,
+    faults: &[u64],
+) -> Replied
+    ensures { λ r. ⌜ (answer (r .answer) ≡ replyOf t (told (source .0) ballot high low row (now (faults .entry))))
+        × (r .tally ≡ tallyAfter t (told (source .0) ballot high low row (now (faults .entry)))) ⌝ }
+{
+    let no = reply_refusal(t, source, ballot, high, low, row, faults);
+    if no != 0 {
+        return Replied { answer: Answer::Refused(no), tally: t };
+    }
+    if t.committed {
+        return Replied { answer: Answer::AlreadyCommitted, tally: t };
+    }
+    let mut u = noted(t, source, row);
+    let commits = is_committing(u, faults);
+    u.committed = commits;
+    if commits {
+        return Replied { answer: Answer::Committed, tally: u };
+    }
+    Replied { answer: Answer::Waiting, tally: u }
+}
+
+// The same on a lent tally, as the source does it: a refusal leaves it as it was.
+pub fn accept_reply(
+    t: &mut Tally,
+    source: ReplicaId,
+    ballot: u64,
+    high: u64,
+    low: u64,
+    row: u64,
+    faults: &[u64],
+) -> Answer
+    ensures { λ r. ⌜ (answer r ≡ replyOf (now (t .entry)) (told (source .0) ballot high low row (now (faults .entry))))
+        × (now (t .exit) ≡ tallyAfter (now (t .entry)) (told (source .0) ballot high low row (now (faults .entry)))) ⌝ }
+{
+    let r = reply(*t, source, ballot, high, low, row, faults);
+    *t = r.tally;
+    r.answer
+}
+
+fn open_refusal(n: usize, quorum: usize, d: usize, w: usize) -> u8
+    ensures { λ r. ⌜ r ≡ openRefusal n quorum d w ⌝ }
+{
+    if !refusals::is_population(n) {
+        return refusals::POPULATION;
+    }
+    if !refusals::is_shards(d, w) {
+        return refusals::SHARDS;
+    }
+    if !refusals::is_quorum(n, quorum) {
+        return refusals::QUORUM;
+    }
+    0
+}
+
+fn fresh(n: usize, quorum: usize, d: usize, w: usize, ballot: u64, high: u64, low: u64) -> Tally
+    ensures { λ r. ⌜ r ≡ fresh n quorum d w ballot high low ⌝ }
+{
+    Tally {
+        population: n,
+        quorum: quorum,
+        data_shards: d,
+        width: w,
+        ballot: ballot,
+        value_high: high,
+        value_low: low,
+        heard: 0,
+        committed: false,
+        rows: [0u64; 16],
+    }
+}
+
+// The number that refuses a reply, or 0. The tally is tested like the opening's values, and its words too: it may come from anywhere.
+fn reply_refusal(
+    t: Tally,
+    source: ReplicaId,
+    ballot: u64,
+    high: u64,
+    low: u64,
+    row: u64,
+    faults: &[u64],
+) -> u8
+    ensures { λ r. ⌜ r ≡ replyRefusal t (told (source .0) ballot high low row (now (faults .entry))) ⌝ }
+{
+    let n = t.population;
+    let w = t.width;
+    let rows = t.rows;
+    if !refusals::is_population(n) {
+        return refusals::POPULATION;
+    }
+    if !refusals::is_replica(n, source) {
+        return refusals::REPLICA;
+    }
+    if !refusals::is_shards(t.data_shards, w) {
+        return refusals::SHARDS;
+    }
+    if !refusals::is_quorum(n, t.quorum) {
+        return refusals::QUORUM;
+    }
+    if !refusals::is_mask(n, t.heard) {
+        return refusals::MASK;
+    }
+    if !refusals::are_rows(w, &rows[..n]) {
+        return refusals::MASK;
+    }
+    if !refusals::is_row(w, row) {
+        return refusals::MASK;
+    }
+    if !refusals::is_fault_list(n, faults) {
+        return refusals::TABLE;
+    }
+    if t.ballot != ballot {
+        return refusals::OTHER_VALUE;
+    }
+    if t.value_high != high {
+        return refusals::OTHER_VALUE;
+    }
+    if t.value_low != low {
+        return refusals::OTHER_VALUE;
+    }
+    0
+}
+
+// The tally with the source heard, and its row replaced or united. A part: the source has been tested.
+fn noted(t: Tally, source: ReplicaId, row: u64) -> Tally
+    requires { ⌜ source .0 < 16 ⌝ }
+    ensures { λ r. ⌜ r ≡ noted t (source .0) row ⌝ }
+{
+    let mut u = t;
+    let s = source.0;
+    u.rows[s] = row_with(t.heard, t.rows[s], source, row);
+    u.heard = bitmap::with_replica(t.heard, source);
+    u
+}
+
+// A first reply replaces what stood there, a later one is united with it.
+fn row_with(heard: u64, held: u64, source: ReplicaId, row: u64) -> u64
+    ensures { λ r. ⌜ r ≡ rowWith heard held (source .0) row ⌝ }
+{
+    if bitmap::has_replica(heard, source) {
+        return bitmap::union(held, row);
+    }
+    row
+}
+
+// Whether at least a quorum is heard and coverage holds. A part: the population has been tested.
+fn is_committing(t: Tally, faults: &[u64]) -> bool
+    requires { ⌜ t .population ≤ 16 ⌝ }
+    ensures { λ r. ⌜ r ≡ isCommitting t (now (faults .entry)) ⌝ }
+{
+    let rows = t.rows;
+    coverage::commits(t.population, t.quorum, t.data_shards, t.heard, &rows, faults)
+}
