@@ -120,8 +120,7 @@ unfolding commits
 commits-means n quorum d heard row faults =
     let a = and-eq-true-iff (leb quorum (count heard)) (isCovered n d heard row faults) in
     let q = count-means quorum heard in
-    let c = covered-means n d heard row faults in
-    (
+    let c = covered-means n d heard row faults in (
       λ e. (q .0 (leb-true quorum (count heard) (a .0 e .0)), c .0 (a .0 e .1)),
       λ h. a .1 (le-leb quorum (count heard) (q .1 (h .0)), c .1 (h .1)),
     )

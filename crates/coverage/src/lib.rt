@@ -62,10 +62,10 @@ pub fn commits(n: usize, quorum: usize, d: usize, heard: u64, rows: &[u64], faul
     requires { ⌜ n ≤ length (now rows) ⌝ }
     ensures { λ r. ⌜ r ≡ commits n quorum d heard (rowIn (now (rows .entry))) (now (faults .entry)) ⌝ }
 {
-    if bitmap::count(heard) < quorum {
-        return false;
+    if quorum <= bitmap::count(heard) {
+        return is_covered(n, d, heard, rows, faults);
     }
-    is_covered(n, d, heard, rows, faults)
+    false
 }
 
 fn covers_refusal(n: usize, d: usize, w: usize, heard: u64, rows: &[u64], faults: &[u64]) -> u8

@@ -1,3 +1,4 @@
 -- The tally of accept replies, and what it says of whole lists of them.
 pub mod Tally
+pub mod RefusalLaws
 pub mod Replies

@@ -1,5 +1,5 @@
 -- The tally of accept replies: its opening, what refuses a reply, and what a reply does. Assumes nothing.
-use mathlib.Core.Bool.{Bool, true, false, cond}
+use mathlib.Core.Bool.{Bool, true, false, cond, _&&_}
 use mathlib.Core.List.{List, [], _∷_}
 use Prim.Native.Nat.{ℕ}
 use lib.Bits.{bitOr}
@@ -61,6 +61,10 @@ pub record Reply : Type 0 where
 abbrev pub told : ℕ → ℕ → ℕ → ℕ → ℕ → List ℕ → Reply
 told source ballot high low row faults = record { source = source; ballot = ballot; high = high; low = low; row = row; faults = faults }
 
+-- the tally's ballot and value id
+unfoldable pub isSameValue : Tally → ℕ → ℕ → ℕ → Bool
+isSameValue t ballot high low = eqb (t .ballot) ballot && (eqb (t .«value_high») high && eqb (t .«value_low») low)
+
 -- the tally handed in is tested like the opening's values; 16 covers its heard mask, its rows below n and the reply's row
 abbrev pub replyCases : Tally → Reply → List Case
 replyCases t r =
@@ -72,9 +76,7 @@ replyCases t r =
     ∷ unless (all (isRow (t .width)) (take (t .population) (t .rows))) MASK
     ∷ unless (isRow (t .width) (r .row)) MASK
     ∷ unless (isFaultList (t .population) (r .faults)) TABLE
-    ∷ unless (eqb (t .ballot) (r .ballot)) OTHER_VALUE
-    ∷ unless (eqb (t .«value_high») (r .high)) OTHER_VALUE
-    ∷ unless (eqb (t .«value_low») (r .low)) OTHER_VALUE
+    ∷ unless (isSameValue t (r .ballot) (r .high) (r .low)) OTHER_VALUE
     ∷ []
 
 unfoldable pub replyRefusal : Tally → Reply → ℕ

@@ -1,7 +1,7 @@
 // The tally of accept replies for one value at one ballot (handle_msg_accept_reply, after the value id test): the opening, and what a reply does to it.
 ghost use mathlib.Core.Path.{_≡_};
 ghost use Prim.Native.Nat.{_≤_, _<_};
-ghost use Rattle.tally.specs.Tally.{openRefusal, fresh, openingOf, rowWith, noted, isCommitting, told, replyRefusal, answer, replyOf, tallyAfter};
+ghost use Rattle.tally.specs.Tally.{openRefusal, fresh, openingOf, rowWith, noted, isCommitting, told, isSameValue, replyRefusal, answer, replyOf, tallyAfter};
 use bitmap::ReplicaId;
 
 // Who has replied, and the shards that each has named. The row of a replica not heard has no meaning.
@@ -38,14 +38,28 @@ pub struct Replied {
 }
 
 // A tally that has heard nobody.
-pub fn open(n: usize, quorum: usize, d: usize, w: usize, ballot: u64, high: u64, low: u64) -> Opening
+pub fn open(
+    n: usize,
+    quorum: usize,
+    d: usize,
+    w: usize,
+    ballot: u64,
+    high: u64,
+    low: u64,
+) -> Opening
     ensures { λ r. ⌜ r ≡ openingOf n quorum d w ballot high low ⌝ }
 {
     let no = open_refusal(n, quorum, d, w);
     if no != 0 {
-        return Opening { refusal: no, tally: fresh(0, 0, 0, 0, 0, 0, 0) };
+        return Opening {
+            refusal: no,
+            tally: fresh(0, 0, 0, 0, 0, 0, 0),
+        };
     }
-    Opening { refusal: 0, tally: fresh(n, quorum, d, w, ballot, high, low) }
+    Opening {
+        refusal: 0,
+        tally: fresh(n, quorum, d, w, ballot, high, low),
+    }
 }
 
 // The reply with its row, counted: by value.
@@ -63,18 +77,30 @@ pub fn reply(
 {
     let no = reply_refusal(t, source, ballot, high, low, row, faults);
     if no != 0 {
-        return Replied { answer: Answer::Refused(no), tally: t };
+        return Replied {
+            answer: Answer::Refused(no),
+            tally: t,
+        };
     }
     if t.committed {
-        return Replied { answer: Answer::AlreadyCommitted, tally: t };
+        return Replied {
+            answer: Answer::AlreadyCommitted,
+            tally: t,
+        };
     }
     let mut u = noted(t, source, row);
     let commits = is_committing(u, faults);
     u.committed = commits;
     if commits {
-        return Replied { answer: Answer::Committed, tally: u };
+        return Replied {
+            answer: Answer::Committed,
+            tally: u,
+        };
     }
-    Replied { answer: Answer::Waiting, tally: u }
+    Replied {
+        answer: Answer::Waiting,
+        tally: u,
+    }
 }
 
 // The same on a lent tally, as the source does it: a refusal leaves it as it was.
@@ -166,16 +192,23 @@ fn reply_refusal(
     if !refusals::is_fault_list(n, faults) {
         return refusals::TABLE;
     }
-    if t.ballot != ballot {
-        return refusals::OTHER_VALUE;
-    }
-    if t.value_high != high {
-        return refusals::OTHER_VALUE;
-    }
-    if t.value_low != low {
+    if !is_same_value(t, ballot, high, low) {
         return refusals::OTHER_VALUE;
     }
     0
+}
+
+// Whether a reply is about the tally's ballot and value id.
+fn is_same_value(t: Tally, ballot: u64, high: u64, low: u64) -> bool
+    ensures { λ r. ⌜ r ≡ isSameValue t ballot high low ⌝ }
+{
+    if t.ballot != ballot {
+        return false;
+    }
+    if t.value_high != high {
+        return false;
+    }
+    t.value_low == low
 }
 
 // The tally with the source heard, and its row replaced or united. A part: the source has been tested.
@@ -206,5 +239,12 @@ fn is_committing(t: Tally, faults: &[u64]) -> bool
     ensures { λ r. ⌜ r ≡ isCommitting t (now (faults .entry)) ⌝ }
 {
     let rows = t.rows;
-    coverage::commits(t.population, t.quorum, t.data_shards, t.heard, &rows, faults)
+    coverage::commits(
+        t.population,
+        t.quorum,
+        t.data_shards,
+        t.heard,
+        &rows,
+        faults,
+    )
 }

@@ -11,6 +11,6 @@ commits-spec =
     tie.close
     (tie.spec
     (λ c κs. search needs)
-    (λ c. rw (← c .before .count .ensures, lt-leb _ _ (c .if1 .taken)))
     (λ c κs. search needs)
-    (λ c. rw (← c .before .before .count .ensures, le-leb _ _ (c .before .if1 .left)) (c .is-covered .ensures)))
+    (λ c. rw (← c .before .before .count .ensures, le-leb _ _ (c .before .if1 .taken)) (c .is-covered .ensures))
+    (λ c. rw (← c .before .count .ensures, lt-leb _ _ (c .if1 .left))))
