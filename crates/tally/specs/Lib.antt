@@ -1,3 +1,5 @@
 -- The tally of accept replies, and what it says of whole lists of them.
 pub mod Tally
 pub mod Replies
+pub mod ReplyLaws
+pub mod Demand
