@@ -1,5 +1,5 @@
 -- The laws of masks, at any width: bits of a union and of a meet, and when two masks are equal. Assumes nothing.
-use mathlib.Core.Logic.{_↔_}
+use mathlib.Core.Logic.{_↔_, _⊎_, inl, inr, ⊎-elim}
 use mathlib.Core.Bool.{true}
 use borrow.Author.Tests.{ltb-true, lt-ltb}
 use mathlib.Core.Path.{_≡_, refl, sym, ap, _∙_, subst}
@@ -7,7 +7,7 @@ use Prim.Native.Nat.{ℕ, zero, suc, _+_, _-_, _/_, _%_, _^_, _≤_, _<_, min, m
 use native.Mathlib.Nat.{div-self, mul-mod-left, mul-div-cancel, div-one, zero-lt-suc, not-suc-le-zero, le-of-suc-le-suc, zero-div, div-lt-iff-lt-mul, div-eq-of-lt, one-mul, pow-suc, lt-of-lt-of-le}
 use native.Mathlib.Numerals.{one-add}
 use native.Mathlib.Omega.{arith}
-use native.Mathlib.Decide.{decLt}
+use native.Mathlib.Decide.{decLt, ℕ-discrete}
 use lib.Arith.{bin-ind}
 use lib.Pow.{ones-lt, shr-shr, pow-mono, pow-pos}
 use lib.Bits.{bitOr, bitAnd, or-step, and-step, or-shr, and-shr}
@@ -45,6 +45,14 @@ bit-or a b s = ap (λ (x : ℕ). x % 2) (or-shr a b s) ∙ or-low (a / 2 ^ s) (b
 
 pub bit-and : (a b s : ℕ) → bit (bitAnd a b) s ≡ min (bit a s) (bit b s)
 bit-and a b s = ap (λ (x : ℕ). x % 2) (and-shr a b s) ∙ and-low (a / 2 ^ s) (b / 2 ^ s)
+
+-- a member of a union is a member of one of the two
+pub or-means : (a b s : ℕ) → (bit (bitOr a b) s ≡ 1) ↔ ((bit a s ≡ 1) ⊎ (bit b s ≡ 1))
+or-means a b s = (go (bit a s) refl, ⊎-elim (λ p. omega (arith, bit-or a b s)) (λ p. omega (arith, bit-or a b s)))
+  where
+    go : (x : ℕ) → bit a s ≡ x → bit (bitOr a b) s ≡ 1 → (bit a s ≡ 1) ⊎ (bit b s ≡ 1)
+    go zero q e = inr (omega (arith, bit-or a b s))
+    go (suc x) q e = inl (omega arith)
 
 -- ---- extensionality
 
@@ -101,6 +109,17 @@ bit-other (suc s) (suc k) h =
 
 pub bit-with : (m s k : ℕ) → bit (withBit m s) k ≡ max (bit m k) (bit (2 ^ s) k)
 bit-with m s k = bit-or m (2 ^ s) k
+
+-- the members of m with s are those of m, and s
+pub with-means : (m s k : ℕ) → (bit (withBit m s) k ≡ 1) ↔ ((bit m k ≡ 1) ⊎ (s ≡ k))
+with-means m s k = (
+  λ e. ⊎-elim inl (λ p. inr (is (ℕ-discrete k s) p)) (or-means m (2 ^ s) k .0 e),
+  λ h. or-means m (2 ^ s) k .1 (⊎-elim inl (λ q. inr (ap (bit (2 ^ s)) (sym q) ∙ bit-same s)) h),
+)
+  where
+    is : Dec (k ≡ s) → bit (2 ^ s) k ≡ 1 → s ≡ k
+    is (yes q) p = sym q
+    is (no f) p = absurd (omega (arith, bit-other s k f))
 
 -- ---- all numbers below n
 

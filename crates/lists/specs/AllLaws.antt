@@ -1,4 +1,4 @@
--- What the tests over a whole list say of its elements. Assumes nothing.
+-- What the tests and statements over a whole list say of its elements. Assumes nothing.
 use mathlib.Core.Path.{_≡_, refl, sym, ap}
 use mathlib.Core.Logic.{_↔_}
 use mathlib.Core.Bool.{Bool, true, false, _||_, and-eq-true-iff, true≢false}
@@ -6,7 +6,7 @@ use mathlib.Core.List.{List, [], _∷_}
 use Prim.Native.Nat.{ℕ, zero, suc, _<_, suc-le-suc}
 use native.Mathlib.Nat.{zero-lt-suc, not-suc-le-zero, le-of-suc-le-suc}
 use lib.ListN.{length, getD}
-use Rattle.lists.specs.All.{all, any}
+use Rattle.lists.specs.All.{all, any, AllOf}
 
 module _ {A : Type 0} (p : A → Bool) (d : A) where
   -- each element passes; d stands past the end
@@ -50,6 +50,20 @@ module _ {A : Type 0} (p : A → Bool) (d : A) where
 
   pub any-means : (xs : List A) → (any p xs ≡ true) ↔ Somewhere xs
   any-means xs = (found xs, λ s. shown xs (s .place) (s .inside) (s .passes))
+
+-- F holds of each element exactly if it does at each place
+module _ {A : Type 0} (F : A → Type 0) (d : A) where
+  placed : (xs : List A) → AllOf F xs → (k : ℕ) → k < length xs → F (getD xs k d)
+  placed [] a k h = absurd (not-suc-le-zero h)
+  placed (x ∷ xs) a zero h = a .0
+  placed (x ∷ xs) a (suc k) h = placed xs (a .1) k (le-of-suc-le-suc h)
+
+  gathered : (xs : List A) → ((k : ℕ) → k < length xs → F (getD xs k d)) → AllOf F xs
+  gathered [] h = tt
+  gathered (x ∷ xs) h = (h zero (zero-lt-suc (length xs)), gathered xs (λ k l. h (suc k) (suc-le-suc l)))
+
+  pub all-of-means : (xs : List A) → AllOf F xs ↔ ((k : ℕ) → k < length xs → F (getD xs k d))
+  all-of-means xs = (placed xs, gathered xs)
 
 -- tests that agree
 module _ {A : Type 0} (p q : A → Bool) (same : (x : A) → p x ≡ q x) where

@@ -2,3 +2,5 @@
 pub mod Tally
 pub mod RefusalLaws
 pub mod Replies
+pub mod ReplyLaws
+pub mod Demand

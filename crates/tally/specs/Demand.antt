@@ -10,6 +10,15 @@
 -- the tally as the one before it left it (`taken`), which is what the contracts of `reply` and `accept_reply` both say (`replyOf`, `tallyAfter`).
 -- A refused reply may carry anything and be lent any list; `decided` says that the opening's values and what is handed in with it alone refuse it.
 -- Assumes nothing.
+use mathlib.Core.Path.{_≡_}
+use mathlib.Core.Logic.{_↔_}
+use mathlib.Core.Bool.{true}
+use mathlib.Core.List.{List, []}
+use Prim.Native.Nat.{ℕ}
+use Rattle.tally.specs.declared.Tally.{Tally}
+use Rattle.tally.specs.Tally.{Reply, openRefusal, fresh, replyRefusal}
+use Rattle.tally.specs.Replies.{taken, afterAll, replies, lastSaid, Stays, Commits, Lent, Included}
+use Rattle.tally.specs.ReplyLaws.{last-is-committed, all-stay, sound-fresh, all-decided, commits-grow, right-fresh, all-exact, both-ways}
 
 module _ (n quorum d w ballot high low : ℕ) where
   -- the tally that `open` gives
@@ -18,16 +27,22 @@ module _ (n quorum d w ballot high low : ℕ) where
 
   -- the reply and the fault list lent with it are refused, or not, as the opened tally would refuse them: what was heard since decides nothing
   pub decided : (rs : List Reply) (r : Reply) → replyRefusal (afterAll opened rs) r ≡ replyRefusal opened r
+  decided rs = all-decided rs opened (sound-fresh n quorum d w ballot high low)
 
   -- once committed is said, every later unrefused reply is answered so too
   pub stays : (rs : List Reply) → Stays (taken opened rs)
+  stays rs = all-stay rs opened
 
   module _ (no : openRefusal n quorum d w ≡ 0) (faults : List ℕ) where
     -- the last unrefused reply was answered committed exactly when the unrefused ones commit. Where there is none, nobody was heard: neither side holds
     pub exactly : (rs : List Reply) → Lent faults (replies (taken opened rs))
         → (lastSaid (taken opened rs) ≡ true) ↔ Commits quorum d faults (replies (taken opened rs))
+    unfolding fresh
+    exactly rs lent = rw (last-is-committed rs opened) (all-exact faults rs opened [] (right-fresh faults n quorum d w ballot high low no) lent)
 
     -- order and repetition of the unrefused replies decide nothing
     pub agree : (rs rs′ : List Reply) → Lent faults (replies (taken opened rs)) → Lent faults (replies (taken opened rs′))
         → Included (replies (taken opened rs)) (replies (taken opened rs′)) → Included (replies (taken opened rs′)) (replies (taken opened rs))
         → lastSaid (taken opened rs) ≡ lastSaid (taken opened rs′)
+    agree rs rs′ l l′ i j =
+        both-ways (λ e. exactly rs′ l′ .1 (commits-grow i (exactly rs l .0 e))) (λ e. exactly rs l .1 (commits-grow j (exactly rs′ l′ .0 e)))
