@@ -12,21 +12,20 @@ use lib.Bits.{bitOr, or-lt}
 use lib.ListN.{length, getD, set, take, replicate, length-set}
 use lib.Pow.{pow-lt, pow-pos}
 use lib.Seq.{getD-set-same, getD-set-other}
-use borrow.Author.Tests.{ltb-true, lt-ltb, eqb-false, not-false}
+use borrow.Author.Tests.{lt-ltb, eqb-false}
 use Rattle.lists.specs.All.{all, AllOf}
 use Rattle.lists.specs.AllLaws.{all-of-means}
 use Rattle.bitmap.specs.Mask.{bit, hasBit, withBit}
 use Rattle.bitmap.specs.MaskLaws.{bit-none, or-means, with-means}
 use Rattle.bitmap.specs.Members.{many-map}
-use Rattle.refusals.specs.FirstLaws.{none-holds}
 use Rattle.refusals.specs.Limits.{isRow}
-use Rattle.refusals.specs.LimitLaws.{population-means, quorum-means}
 use Rattle.refusals.specs.Outcome.{outcome, written}
 use Rattle.coverage.specs.Coverage.{rowIn, commits}
 use Rattle.coverage.specs.CoverageLaws.{Held, commits-means}
 use Rattle.tally.specs.declared.Tally.{Tally}
-use Rattle.tally.specs.Tally.{Reply, waiting, committed, alreadyCommitted, openCases, openRefusal, fresh, replyCases, replyRefusal, rowWith}
+use Rattle.tally.specs.Tally.{Reply, waiting, committed, alreadyCommitted, openRefusal, fresh, isSameValue, replyRefusal, rowWith}
 use Rattle.tally.specs.Tally.{noted, isCommitting, settled, replyOf, tallyAfter}
+use Rattle.tally.specs.RefusalLaws.{openable, countable}
 use Rattle.tally.specs.Replies.{saysCommitted, Taken, taking, taken, afterAll, replies, lastOr, Stays, Heard, Named, Left, Commits, Lent, Included}
 
 -- ---- one reply
@@ -79,22 +78,6 @@ all-stay (r ∷ rs) t =
 
 -- ---- what is refused
 
--- what an unrefused reply is, of what is needed here
-record Fits (t : Tally) (r : Reply) : Type 0 where
-  few : t .population ≤ 16
-  source : r .source < t .population
-  row : r .row < 2 ^ t .width
-
-unrefused-fits : (t : Tally) (r : Reply) → replyRefusal t r ≡ 0 → Fits t r
-unfolding replyRefusal
-unrefused-fits t r e =
-    let h = none-holds (replyCases t r) refl .0 e in
-    record {
-      few = population-means (t .population) .0 (not-false _ (h .0)) .1;
-      source = ltb-true (r .source) (t .population) (not-false _ (h .1 .0));
-      row = ltb-true (r .row) (2 ^ t .width) (not-false _ (h .1 .1 .1 .1 .1 .1 .0));
-    }
-
 -- the tally's own words pass their checks
 pub record Sound (t : Tally) : Type 0 where
   pub mask : t .heard < 2 ^ t .population
@@ -126,9 +109,9 @@ module _ (t : Tally) (r : Reply) (sound : Sound t) (e : replyRefusal t r ≡ 0) 
   sound-counted : Sound (counted t r)
   unfolding noted
   sound-counted =
-      let f = unrefused-fits t r e in
+      let f = countable t r .0 e in
       record {
-        mask = or-lt (t .population) (t .heard) (2 ^ r .source) (sound .mask) (pow-lt (f .source));
+        mask = or-lt (t .population) (t .heard) (2 ^ r .source) (sound .mask) (pow-lt (f .replica));
         each-row = set-each (λ (x : ℕ). x < 2 ^ t .width) 0 _ (t .rows) (r .source) (row (f .row) (hasBit (t .heard) (r .source))) (sound .each-row);
       }
     where
@@ -138,7 +121,7 @@ module _ (t : Tally) (r : Reply) (sound : Sound t) (e : replyRefusal t r ≡ 0) 
 
   -- only the two checks of its own words could differ, and both pass before and after
   counted-refusal : (x : Reply) → replyRefusal (counted t r) x ≡ replyRefusal t x
-  unfolding replyRefusal noted
+  unfolding replyRefusal isSameValue noted
   counted-refusal x =
       let u = counted t r in
       simp (
@@ -311,11 +294,10 @@ module _ (faults : List ℕ) where
     pub sums : t .committed ≡ false → Sums (t .population) (t .heard) (t .rows) us
 
   pub right-fresh : (n quorum d w ballot high low : ℕ) → openRefusal n quorum d w ≡ 0 → Right (fresh n quorum d w ballot high low) []
-  unfolding fresh openRefusal
+  unfolding fresh
   right-fresh n quorum d w ballot high low e =
-      let h = none-holds (openCases n quorum d w) refl .0 e in
-      let q = quorum-means n quorum .0 (not-false _ (h .1 .1 .0)) in
-      record { exact = (λ c. absurd (true≢false (sym c)), λ c. absurd (none-commit quorum d faults (q .0) c)); sums = λ c. sums-none n }
+      let q = openable n quorum d w .0 e .enough .0 in
+      record { exact = (λ c. absurd (true≢false (sym c)), λ c. absurd (none-commit quorum d faults q c)); sums = λ c. sums-none n }
 
   module _ {t : Tally} {us : List Reply} (right : Right t us) (r : Reply) where
     right-after : t .committed ≡ true → Right t (us ++ r ∷ [])
@@ -324,8 +306,8 @@ module _ (faults : List ℕ) where
     right-counted : replyRefusal t r ≡ 0 → t .committed ≡ false → r .faults ≡ faults → Right (counted t r) (us ++ r ∷ [])
     unfolding noted isCommitting
     right-counted e c l =
-        let f = unrefused-fits t r e in
-        let s = sums-noted (right .sums c) r (f .few) (f .source) in
+        let f = countable t r .0 e in
+        let s = sums-noted (right .sums c) r (f .opening .population .1) (f .replica) in
         record {
           exact = rw (← l) (sums-commit s (t .quorum) (t .«data_shards») (r .faults) (heard-means us r (r .source) .1 (inr refl)));
           sums = λ p. s;

@@ -91,8 +91,8 @@ said-of = EL.vals S.the-type S′.the-laws
 
 module _ {M : Type 1} (𝓤 : URA M) (H : Heap 𝓤) (A : Atoms 𝓤) (mem : Memory → SProp 𝓤) (run : Routine → Fun 𝓤) where
   -- the contract that the proof cites
-  abbrev Asked : Contract 𝓤
-  Asked = tripleOf 𝓤 H A reply.signature (reply.spec 𝓤 H A mem run)
+  abbrev ReplyContract : Contract 𝓤
+  ReplyContract = tripleOf 𝓤 H A reply.signature (reply.spec 𝓤 H A mem run)
 
 module _ {M : Type 1} (𝓤 : URA M) (H : Heap 𝓤) (A : Atoms 𝓤) (W : Given 𝓤 H A) (at-mem : Memory → SProp 𝓤) (run : Routine → Fun 𝓤) (κ κ′ : Lft) (q q′ : Share) (b o : ℕ) (γ : GName) (h : Tally)
     (src : ReplicaId) (bal hi lo row : ℕ) (fl : RefT (List ℕ)) where
@@ -126,10 +126,10 @@ module _ {M : Type 1} (𝓤 : URA M) (H : Heap 𝓤) (A : Atoms 𝓤) (W : Given
   Post = walkOf 𝓤 H A accept.ended stayed (accept.clauses 𝓤 H A at-mem run) .post (((κ, (κ′, tt)), (q, (q′, tt)), tt, x, at), tt)
 
   -- what `reply`'s triple binds outside
-  abbrev to : Asked 𝓤 H A at-mem run .Ghost
+  abbrev to : ReplyContract 𝓤 H A at-mem run .Ghost
   to = (((κ′, tt), (q′, tt), tt, (h, rest), (vals h, restv)), tt)
 
-  asked : ent 𝓤 (onEntry 𝓤 H A reply.signature (κ′, tt) (q′, tt) (h, rest) (vals h, restv)) (Asked 𝓤 H A at-mem run .pre to)
+  asked : ent 𝓤 (onEntry 𝓤 H A reply.signature (κ′, tt) (q′, tt) (h, rest) (vals h, restv)) (ReplyContract 𝓤 H A at-mem run .pre to)
   asked = qed W ((‵ (flft κ′ q′) ⊛ ‵ ftrue) ∷ ‵ (owns (T.the-row ∷ P.the-row ∷ u64 ∷ u64 ∷ u64 ∷ u64 ∷ ShrSlice (named 0) κ′ u64 ∷ []) (h, rest) (vals h, restv)) ∷ []) ∵ join ! $ frame ! $ done !
 
   -- of `reply`'s `ensured`, the clause alone: it has no `&mut`, so what is said of last values is dropped
@@ -146,7 +146,7 @@ module _ {M : Type 1} (𝓤 : URA M) (H : Heap 𝓤) (A : Atoms 𝓤) (W : Given
       nothing ! $ nothing ! $ fjoin ! $ nothing ! $ fjoin ! $ nothing ! $ fjoin ! $ nothing ! $ fjoin ! $ nothing ! $ fjoin ! $ nothing ! $ fjoin ! $ move ! (1 ∷ 0 ∷ []) $ fjoin ! $
       owned ! S.the-row (Is S.the-row) (EL.makes S.the-type S′.the-plain 𝓤 H A) (r .answer) _ is $ move ! (1 ∷ 0 ∷ []) $ done !
 
-  module _ (C : Calls 𝓤 H) (Λ : Loops 𝓤 H) (fm : FmC 𝓤 H (W .laws) C) (known : Triple 𝓤 (C #tally·reply) (Asked 𝓤 H A at-mem run)) where
+  module _ (C : Calls 𝓤 H) (Λ : Loops 𝓤 H) (fm : FmC 𝓤 H (W .laws) C) (known : Triple 𝓤 (C #tally·reply) (ReplyContract 𝓤 H A at-mem run)) where
     walk : Is P.the-row src (who src) → bal < 2 ^ 64 → hi < 2 ^ 64 → lo < 2 ^ 64 → row < 2 ^ 64 → length (fl .now) < 2 ^ 64
         → ent 𝓤 (onEntry 𝓤 H A accept.signature (κ, (κ′, tt)) (q, (q′, tt)) x at) (WpFn 𝓤 H C Λ code.function (vptr b o ∷ only (who src) ∷ vint w64 bal ∷ vint w64 hi ∷ vint w64 lo ∷ vint w64 row ∷ f ∷ []) Post)
     walk g₂ g₃ g₄ g₅ g₆ g₇ =
@@ -161,9 +161,9 @@ module _ {M : Type 1} (𝓤 : URA M) (H : Heap 𝓤) (A : Atoms 𝓤) (W : Given
         move ! (1 ∷ []) $ peeks ! T.the-row (Is T.the-row) (shows 𝓤 H A T.the-row) h (vals h) (λ was. move ! (1 ∷ 0 ∷ []) $
         -- [the struct's cell; what a Tally owns; the open borrow; obs; auth; the other token; what the other parameters own; _9; …; _8; …; _7; …; _1 (23); …; room for _0 (25); …]
         assigns ! (of-opd ! (load ! (from ! (hop ! (look ! 23 refl) (stop !))) (look-raw ! 0 refl))) (from ! (stop !)) (init ! 7 refl (LL.lawful T.the-type T′.the-laws 𝓤 H A W .typed h _ was .0)) $
-        move ! (1 ∷ 6 ∷ []) $ fjoin ! $ move ! (5 ∷ 0 ∷ []) $ use2 W (raw (Asked 𝓤 H A at-mem run .pre to)) asked $
+        move ! (1 ∷ 6 ∷ []) $ fjoin ! $ move ! (5 ∷ 0 ∷ []) $ use2 W (raw (ReplyContract 𝓤 H A at-mem run .pre to)) asked $
         -- [what `reply` asks; the cell; the open borrow; obs; auth; _9 (5); …; _8 (7); …; _7 (9); …; _2 (19); …; _1 (21); …; room for _0 (23); …]
-        calls-at ! fm (Asked 𝓤 H A at-mem run) known to (and-then ! (load ! (from ! (stop !)) (look ! 5 refl)) (and-then ! (load ! (from ! (stop !)) (look ! 19 refl)) (and-then ! (load ! (from ! (stop !)) (look ! 17 refl))
+        calls-at ! fm (ReplyContract 𝓤 H A at-mem run) known to (and-then ! (load ! (from ! (stop !)) (look ! 5 refl)) (and-then ! (load ! (from ! (stop !)) (look ! 19 refl)) (and-then ! (load ! (from ! (stop !)) (look ! 17 refl))
         (and-then ! (load ! (from ! (stop !)) (look ! 15 refl)) (and-then ! (load ! (from ! (stop !)) (look ! 13 refl)) (and-then ! (load ! (from ! (stop !)) (look ! 11 refl)) (and-then ! (load ! (from ! (stop !)) (look ! 9 refl)) (no-more !)))))))) (λ u.
         use1 W (later (some (λ (r : Replied). ((‵ (flft κ′ q′) ⊛ ‵ ftrue) ⊛ ‵ (R.the-row .own r (u ∷ []))) ⊛ raw (ensured 𝓤 H A reply.ended (reply.clauses 𝓤 H A at-mem run) (κ′, tt) (h, rest) tt r)))) (id⊢ 𝓤 _) $ await ! tt $ pick ! (λ r.
         split ! $ move ! (1 ∷ []) $ use1 W (raw (fact 𝓤 (Found r))) (said r) $ heard ! (Found r) (λ e. split ! $ move ! (1 ∷ []) $
@@ -181,7 +181,7 @@ module _ {M : Type 1} (𝓤 : URA M) (H : Heap 𝓤) (A : Atoms 𝓤) (W : Given
         keep ! (0 ∷ 1 ∷ 2 ∷ 3 ∷ []) $ by ! (exits r e (LL.owed R.the-type R′.the-laws r _ is .0))))))))))))))))))
 
 module _ {M : Type 1} (𝓤 : URA M) (H : Heap 𝓤) (A : Atoms 𝓤) (W : Given 𝓤 H A) (mem : Memory → SProp 𝓤) (run : Routine → Fun 𝓤) where
-  accept-walks : (C : Calls 𝓤 H) (Λ : Loops 𝓤 H) → FmC 𝓤 H (W .laws) C → Triple 𝓤 (C #tally·reply) (Asked 𝓤 H A mem run) → Walks 𝓤 H A accept.ended stayed (WpFn 𝓤 H C Λ code.function) (accept.clauses 𝓤 H A mem run)
+  accept-walks : (C : Calls 𝓤 H) (Λ : Loops 𝓤 H) → FmC 𝓤 H (W .laws) C → Triple 𝓤 (C #tally·reply) (ReplyContract 𝓤 H A mem run) → Walks 𝓤 H A accept.ended stayed (WpFn 𝓤 H C Λ code.function) (accept.clauses 𝓤 H A mem run)
   accept-walks C Λ fm known = walked 𝓤 H A accept.ended stayed (accept.clauses 𝓤 H A mem run) (WpFn 𝓤 H C Λ code.function)
       (λ κs. (ptr-vals, (who, (uint-vals w64, (uint-vals w64, (uint-vals w64, (uint-vals w64, (slice-vals, tt))))))))
       (λ κs. (mut-tells (named 0) (κs .0) T.the-row, (LL.tells P.the-type P′.the-laws, (uint-tells w64, (uint-tells w64, (uint-tells w64, (uint-tells w64, (shr-slice-tells (named 1) (κs .1 .0) u64, tt))))))))
@@ -204,7 +204,7 @@ module _ {M : Type 1} (𝓤 : URA M) (H : Heap 𝓤) (A : Atoms 𝓤) (W : Given
     ),
   )
 
-accept-meets : {M : Type 1} (𝓤 : URA M) (H : Heap 𝓤) (A : Atoms 𝓤) → Given 𝓤 H A → (mem : Memory → SProp 𝓤) (run : Routine → Fun 𝓤) (𝓣 : Tables 𝓤 H) → Triple 𝓤 (𝓣 .C #tally·reply) (Asked 𝓤 H A mem run)
+accept-meets : {M : Type 1} (𝓤 : URA M) (H : Heap 𝓤) (A : Atoms 𝓤) → Given 𝓤 H A → (mem : Memory → SProp 𝓤) (run : Routine → Fun 𝓤) (𝓣 : Tables 𝓤 H) → Triple 𝓤 (𝓣 .C #tally·reply) (ReplyContract 𝓤 H A mem run)
     → Meets 𝓤 H A accept.signature (WpFn 𝓤 H (𝓣 .C) (𝓣 .Λ) code.function) (accept.spec 𝓤 H A mem run)
 accept-meets 𝓤 H A W mem run 𝓣 known =
     walk-meets 𝓤 H A accept.ended stayed W (goes 𝓤 H A W mem run) (accept.clauses 𝓤 H A mem run)
@@ -216,4 +216,4 @@ accept-reply-spec 𝓤 H 𝓜 𝓖 𝓡 =
     entered 𝓤 H (tripleOf 𝓤 H (𝓖 .A) accept.signature (accept.spec 𝓤 H (𝓖 .A) (𝓜 .mem) (𝓡 .run)))
     (tables 𝓤 H 𝓜 𝓡 code.env .C) (tables 𝓤 H 𝓜 𝓡 code.env .Λ) #tally·accept_reply code.function (code.unfolded 𝓤 H 𝓜 𝓡)
     (accept-meets 𝓤 H (𝓖 .A) (givenOf 𝓤 H 𝓜 𝓖) (𝓜 .mem) (𝓡 .run) (tablesOf 𝓤 H 𝓜 (tables 𝓤 H 𝓜 𝓡 code.env))
-    (cited 𝓤 H (Asked 𝓤 H (𝓖 .A) (𝓜 .mem) (𝓡 .run)) 𝓜 𝓡 code.env #tally·reply reply-def.routine code.calls-tally·reply (reply-thm.met 𝓤 H 𝓜 𝓖 𝓡)))
+    (cited 𝓤 H (ReplyContract 𝓤 H (𝓖 .A) (𝓜 .mem) (𝓡 .run)) 𝓜 𝓡 code.env #tally·reply reply-def.routine code.calls-tally·reply (reply-thm.met 𝓤 H 𝓜 𝓖 𝓡)))
