@@ -1,15 +1,13 @@
 -- How the number that refuses, and what is asked after it, come to the answer and the tally. The premises are what a need's record holds, so that
 -- `search` finds them. Assumes nothing.
-use mathlib.Core.Path.{_≡_, refl, sym, ap, _∙_}
+use mathlib.Core.Path.{_≡_, sym, ap, _∙_}
 use mathlib.Core.Bool.{Bool, true, false, cond}
-use mathlib.Core.List.{List}
 use Prim.Native.Nat.{ℕ, _≤_, _<_}
 use native.Mathlib.Omega.{arith}
 use Rattle.refusals.specs.Outcome.{refused, accepted, outcome, written}
 use Rattle.refusals.proofs.Outcomes.{is-refused, leaves-all}
 use Rattle.tally.specs.declared.Tally.{Tally}
-use Rattle.tally.specs.declared.Opening.{Opening}
-use Rattle.tally.specs.Tally.{Reply, Said, waiting, committed, alreadyCommitted, fresh, openRefusal, openingOf, replyRefusal, replyOf, tallyAfter, updated, settled, noted, isCommitting}
+use Rattle.tally.specs.Tally.{Reply, waiting, committed, alreadyCommitted, fresh, openRefusal, openingOf, replyRefusal, replyOf, tallyAfter, updated, settled, noted, isCommitting}
 use Rattle.tally.specs.RefusalLaws.{countable}
 
 -- ---- `reply`
@@ -44,11 +42,13 @@ module _ (t : Tally) (r : Reply) (got : ℕ) (e : got ≡ replyRefusal t r) wher
       let s = countable t r .0 (sym e ∙ z) in
       omega (arith, s .replica, s .opening .population)
 
-  pub population-below : (u : Tally) → got ≡ 0 → u ≡ noted t (r .source) (r .row) → u .population ≤ 16
+  -- the population of the tally, and of the tally that has noted the reply
+  pub population-below : got ≡ 0 → t .population ≤ 16
+  population-below z = countable t r .0 (sym e ∙ z) .opening .population .1
+
+  pub noted-below : (u : Tally) → got ≡ 0 → u ≡ noted t (r .source) (r .row) → u .population ≤ 16
   unfolding noted
-  population-below u z n =
-      let s = countable t r .0 (sym e ∙ z) in
-      omega (arith, ap (λ (v : Tally). v .population) n, s .opening .population)
+  noted-below u z n = omega (arith, ap (λ (v : Tally). v .population) n, population-below z)
 
 -- ---- `open`
 module _ (n quorum d w ballot high low : ℕ) (got : ℕ) (e : got ≡ openRefusal n quorum d w) where

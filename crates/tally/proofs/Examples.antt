@@ -1,7 +1,7 @@
 -- Worked values of the tally, computed by the checker: a run of replies with duplicates and refused ones in between, tallies that did not come from an
 -- opening, each refusal, and which of two comes first. Assumes nothing.
 use mathlib.Core.Path.{_≡_, refl}
-use mathlib.Core.Bool.{Bool, true, false}
+use mathlib.Core.Bool.{true, false}
 use mathlib.Core.List.{List, [], _∷_, map}
 use Prim.Native.Nat.{ℕ}
 use Rattle.bitmap.specs.Mask.{count}
@@ -9,9 +9,8 @@ use Rattle.refusals.specs.Outcome.{Outcome, refused, accepted}
 use Rattle.refusals.specs.Limits.{isPopulation, isShards, isQuorum, isFaultList}
 use Rattle.coverage.specs.Coverage.{unionOf, leaves, isCovered, commits}
 use Rattle.tally.specs.declared.Tally.{Tally}
-use Rattle.tally.specs.declared.Opening.{Opening}
 use Rattle.tally.specs.Tally.{Reply, told, Said, waiting, committed, alreadyCommitted, fresh, openRefusal, openingOf, updated, noted, isCommitting, isSameValue, replyRefusal, replyOf, tallyAfter}
-use Rattle.tally.specs.Replies.{Taken, taken, replies, lastSaid, afterAll}
+use Rattle.tally.specs.Replies.{Taken, taken, afterAll}
 
 -- one of three replicas fails: the masks of 0, of 1 and of 2
 ones : List ℕ

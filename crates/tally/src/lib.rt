@@ -62,7 +62,7 @@ pub fn open(
     }
 }
 
-// The reply with its row, counted: by value.
+// Counts a reply. By value: the tally comes back beside the answer.
 pub fn reply(
     t: Tally,
     source: ReplicaId,
