@@ -2,7 +2,7 @@
 use mathlib.Core.Path.{_≡_, refl, sym, ap, _∙_}
 use mathlib.Core.Logic.{⊎-elim, _⊎_, inl, inr, _↔_}
 use mathlib.Core.List.{List, [], _∷_, map}
-use Prim.Native.Nat.{ℕ, zero, suc, _+_, _-_, _/_, _%_, _^_, _≤_}
+use Prim.Native.Nat.{ℕ, zero, suc, _+_, _/_, _%_, _^_, _≤_}
 use native.Mathlib.Nat.{suc-inj, suc-ne-zero, pow-suc, mul-mod-left, mul-div-cancel, zero-lt-suc}
 use native.Mathlib.Omega.{arith}
 use native.Mathlib.Decide.{ℕ-discrete}
@@ -11,6 +11,7 @@ use lib.Bits.{bitAnd}
 use lib.ListN.{length, take, length-map}
 use lib.Seq.{length-take-le}
 use Rattle.lists.specs.All.{AllOf, Distinct}
+use Rattle.lists.specs.AllLaws.{all-of-map}
 use Rattle.bitmap.specs.Mask.{bit, withBit, count}
 use Rattle.bitmap.specs.MaskLaws.{bit-zero, bit-half, bit-and, bit-none, bit-same, bit-other, bit-with, same-bits, Within}
 use Rattle.bitmap.specs.CountLaws.{count-step, count-none, count-within, count-or}
@@ -21,10 +22,6 @@ pub record Many (d : ℕ) (Q : ℕ → Type 0) : Type 0 where
   pub long : length list ≡ d
   pub distinct : Distinct list
   pub each : AllOf Q list
-
-all-map : {P Q : ℕ → Type 0} → ((k : ℕ) → P k → Q k) → (xs : List ℕ) → AllOf P xs → AllOf Q xs
-all-map f [] a = tt
-all-map f (x ∷ xs) a = (f x (a .0), all-map f xs (a .1))
 
 -- ---- from a mask to a list
 
@@ -137,4 +134,4 @@ count-means d m = (listed d m, gathered d m)
 
 -- the same numbers, seen otherwise
 pub many-map : {P Q : ℕ → Type 0} {d : ℕ} → ((k : ℕ) → P k → Q k) → Many d P → Many d Q
-many-map f h = record { list = h .list; long = h .long; distinct = h .distinct; each = all-map f (h .list) (h .each) }
+many-map f h = record { list = h .list; long = h .long; distinct = h .distinct; each = all-of-map f (h .list) (h .each) }

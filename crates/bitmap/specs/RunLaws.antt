@@ -1,6 +1,6 @@
 -- What a mask that is put together member by member holds; runs as numbers. Assumes nothing.
 use mathlib.Core.Path.{_≡_, refl, sym, ap, ap₂, subst, _∙_}
-use mathlib.Core.Logic.{⊎-elim, _⊎_, _↔_}
+use mathlib.Core.Logic.{⊎-elim, _↔_}
 use Prim.Native.Nat.{ℕ, zero, suc, _+_, _-_, _*_, _%_, _^_, _≤_, _<_}
 use native.Mathlib.Nat.{add-zero, add-suc, add-comm, zero-mul, one-mul, mul-one, add-mul, pow-suc, mod-add-mod, add-mod-left, mod-lt, not-suc-le-zero, le-refl, le-step, le-of-suc-le-suc, eq-or-lt-of-le, mod-eq-of-lt}
 use native.Mathlib.Decide.{ℕ-discrete}

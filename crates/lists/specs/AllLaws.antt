@@ -65,6 +65,11 @@ module _ {A : Type 0} (F : A → Type 0) (d : A) where
   pub all-of-means : (xs : List A) → AllOf F xs ↔ ((k : ℕ) → k < length xs → F (getD xs k d))
   all-of-means xs = (placed xs, gathered xs)
 
+-- what holds of each element gives what follows from it
+pub all-of-map : {A : Type 0} {P Q : A → Type 0} → ((x : A) → P x → Q x) → (xs : List A) → AllOf P xs → AllOf Q xs
+all-of-map f [] a = tt
+all-of-map f (x ∷ xs) a = (f x (a .0), all-of-map f xs (a .1))
+
 -- tests that agree
 module _ {A : Type 0} (p q : A → Bool) (same : (x : A) → p x ≡ q x) where
   pub all-same : (xs : List A) → all p xs ≡ all q xs

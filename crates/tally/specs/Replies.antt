@@ -1,15 +1,16 @@
 -- A list of accept replies, handed in turn to a tally: which were not refused, what they were answered, and what they say of who was heard and of the
 -- shards named. Assumes nothing.
 use mathlib.Core.Path.{_≡_}
-use mathlib.Core.Bool.{Bool, true, false}
+use mathlib.Core.Bool.{Bool, true, false, cond}
 use mathlib.Core.List.{List, [], _∷_, List·Memᴰ, map}
 use Prim.Native.Nat.{ℕ}
+use lib.Dec.{eqb}
 use Rattle.lists.specs.All.{AllOf}
 use Rattle.bitmap.specs.Mask.{bit}
 use Rattle.bitmap.specs.Members.{Many}
 use Rattle.refusals.specs.Outcome.{Outcome, refused, accepted}
 use Rattle.tally.specs.declared.Tally.{Tally}
-use Rattle.tally.specs.Tally.{Reply, Said, waiting, committed, alreadyCommitted, replyOf, tallyAfter}
+use Rattle.tally.specs.Tally.{Reply, Said, waiting, committed, alreadyCommitted, replyRefusal, replyOf, tallyAfter}
 
 -- ---- handed in turn
 
@@ -28,10 +29,15 @@ abbrev pub taking : Reply → Outcome Said → List Taken → List Taken
 taking r (refused k) us = us
 taking r (accepted said) us = (r, saysCommitted said) ∷ us
 
--- the unrefused replies of a list in turn. Each reply is handed the tally as the one before it left it
+-- the unrefused replies of a list in turn, with what they were answered. Each reply is handed the tally as the one before it left it
 abbrev pub taken : Tally → List Reply → List Taken
 taken t [] = []
 taken t (r ∷ rs) = taking r (replyOf t r) (taken (tallyAfter t r) rs)
+
+-- the replies of a list that the tally, as it stands, does not refuse
+abbrev pub unrefused : Tally → List Reply → List Reply
+unrefused t [] = []
+unrefused t (r ∷ rs) = cond (eqb (replyRefusal t r) 0) (r ∷ unrefused t rs) (unrefused t rs)
 
 -- the tally after them all
 abbrev pub afterAll : Tally → List Reply → Tally

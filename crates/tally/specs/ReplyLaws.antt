@@ -9,12 +9,13 @@ use Prim.Native.Nat.{ℕ, zero, suc, _^_, _≤_, _<_}
 use native.Mathlib.Decide.{ℕ-discrete}
 use native.Mathlib.Omega.{arith}
 use lib.Bits.{bitOr, or-lt}
+use lib.Dec.{eqb}
 use lib.ListN.{length, getD, set, take, replicate, length-set}
 use lib.Pow.{pow-lt, pow-pos}
 use lib.Seq.{getD-set-same, getD-set-other}
-use borrow.Author.Tests.{lt-ltb, eqb-false}
+use borrow.Author.Tests.{lt-ltb, eq-eqb, ne-eqb, eqb-false}
 use Rattle.lists.specs.All.{all, AllOf}
-use Rattle.lists.specs.AllLaws.{all-of-means}
+use Rattle.lists.specs.AllLaws.{all-of-means, all-of-map}
 use Rattle.bitmap.specs.Mask.{bit, hasBit, withBit}
 use Rattle.bitmap.specs.MaskLaws.{bit-none, or-means, with-means}
 use Rattle.bitmap.specs.Members.{many-map}
@@ -26,7 +27,7 @@ use Rattle.tally.specs.declared.Tally.{Tally}
 use Rattle.tally.specs.Tally.{Reply, waiting, committed, alreadyCommitted, openRefusal, fresh, isSameValue, replyRefusal, rowWith}
 use Rattle.tally.specs.Tally.{noted, isCommitting, settled, replyOf, tallyAfter}
 use Rattle.tally.specs.RefusalLaws.{openable, countable}
-use Rattle.tally.specs.Replies.{saysCommitted, Taken, taking, taken, afterAll, replies, lastOr, Stays, Heard, Named, Left, Commits, Lent, Included}
+use Rattle.tally.specs.Replies.{saysCommitted, Taken, taking, taken, unrefused, afterAll, replies, lastOr, lastSaid, Stays, Heard, Named, Left, Commits, Lent, Included}
 
 -- ---- one reply
 
@@ -40,7 +41,7 @@ says false = refl
 
 -- what a reply adds to the later answers, and the tally that it leaves, are one of three: a refused reply adds nothing and leaves the tally, one after
 -- commitment leaves it too, any other is counted
-pub by-reply : (t : Tally) (r : Reply) (P : (List Taken → List Taken) → Tally → Type 0) → P (λ us. us) t
+pub by-reply : (t : Tally) (r : Reply) (P : (List Taken → List Taken) → Tally → Type 0) → ((replyRefusal t r ≡ 0 → ⊥) → P (λ us. us) t)
     → (replyRefusal t r ≡ 0 → t .committed ≡ true → P (λ us. (r, true) ∷ us) t)
     → (replyRefusal t r ≡ 0 → t .committed ≡ false → P (λ us. (r, counted t r .committed) ∷ us) (counted t r))
     → P (taking r (replyOf t r)) (tallyAfter t r)
@@ -51,7 +52,7 @@ by-reply t r P refuses already counts = go (replyRefusal t r) refl (t .committed
         → P (taking r (outcome k (cond b alreadyCommitted (cond (counted t r .committed) committed waiting)))) (written k (cond b t (counted t r)) t)
     go zero e true c = already e c
     go zero e false c = subst (λ (b : Bool). P (λ us. (r, b) ∷ us) (counted t r)) (sym (says (counted t r .committed))) (counts e c)
-    go (suc k) e b c = refuses
+    go (suc k) e b c = refuses (λ z. omega arith)
 
 -- ---- what is answered
 
@@ -59,7 +60,7 @@ by-reply t r P refuses already counts = go (replyRefusal t r) refl (t .committed
 pub last-is-committed : (rs : List Reply) (t : Tally) → lastOr (t .committed) (taken t rs) ≡ afterAll t rs .committed
 last-is-committed [] t = refl
 last-is-committed (r ∷ rs) t =
-    by-reply t r (λ f u. lastOr (t .committed) (f (taken u rs)) ≡ afterAll u rs .committed) (last-is-committed rs t)
+    by-reply t r (λ f u. lastOr (t .committed) (f (taken u rs)) ≡ afterAll u rs .committed) (λ n. last-is-committed rs t)
     (λ e c. ap (λ (b : Bool). lastOr b (taken t rs)) (sym c) ∙ last-is-committed rs t)
     (λ e c. last-is-committed rs (counted t r))
 
@@ -67,13 +68,13 @@ last-is-committed (r ∷ rs) t =
 all-committed : (rs : List Reply) (t : Tally) → t .committed ≡ true → AllOf (λ (v : Taken). v .1 ≡ true) (taken t rs)
 all-committed [] t c = tt
 all-committed (r ∷ rs) t c =
-    by-reply t r (λ f u. AllOf (λ (v : Taken). v .1 ≡ true) (f (taken u rs))) (all-committed rs t c) (λ e p. (refl, all-committed rs t c))
+    by-reply t r (λ f u. AllOf (λ (v : Taken). v .1 ≡ true) (f (taken u rs))) (λ n. all-committed rs t c) (λ e p. (refl, all-committed rs t c))
     (λ e p. absurd (true≢false (sym c ∙ p)))
 
 pub all-stay : (rs : List Reply) (t : Tally) → Stays (taken t rs)
 all-stay [] t = tt
 all-stay (r ∷ rs) t =
-    by-reply t r (λ f u. Stays (f (taken u rs))) (all-stay rs t) (λ e c. (λ p. all-committed rs t c, all-stay rs t))
+    by-reply t r (λ f u. Stays (f (taken u rs))) (λ n. all-stay rs t) (λ e c. (λ p. all-committed rs t c, all-stay rs t))
     (λ e c. (all-committed rs (counted t r), all-stay rs (counted t r)))
 
 -- ---- what is refused
@@ -134,8 +135,20 @@ module _ (t : Tally) (r : Reply) (sound : Sound t) (e : replyRefusal t r ≡ 0) 
 pub all-decided : (rs : List Reply) (t : Tally) → Sound t → (x : Reply) → replyRefusal (afterAll t rs) x ≡ replyRefusal t x
 all-decided [] t sound x = refl
 all-decided (r ∷ rs) t sound x =
-    by-reply t r (λ f u. replyRefusal (afterAll u rs) x ≡ replyRefusal t x) (all-decided rs t sound x) (λ e c. all-decided rs t sound x)
+    by-reply t r (λ f u. replyRefusal (afterAll u rs) x ≡ replyRefusal t x) (λ n. all-decided rs t sound x) (λ e c. all-decided rs t sound x)
     (λ e c. all-decided rs (counted t r) (sound-counted t r sound e) x ∙ counted-refusal t r sound e x)
+
+-- those that are taken are those that a tally with the same refusals does not refuse
+pub all-unrefused : (v : Tally) (rs : List Reply) (t : Tally) → Sound t → ((x : Reply) → replyRefusal t x ≡ replyRefusal v x)
+    → replies (taken t rs) ≡ unrefused v rs
+all-unrefused v [] t sound same = refl
+all-unrefused v (r ∷ rs) t sound same =
+    by-reply t r (λ f u. replies (f (taken u rs)) ≡ cond (eqb (replyRefusal v r) 0) (r ∷ unrefused v rs) (unrefused v rs))
+    (λ n. rw (ne-eqb (replyRefusal v r) 0 (λ z. n (same r ∙ z))) (all-unrefused v rs t sound same))
+    (λ e c. rw (eq-eqb (replyRefusal v r) 0 (sym (same r) ∙ e)) (ap (λ (us : List Reply). r ∷ us) (all-unrefused v rs t sound same)))
+    (λ e c.
+    rw (eq-eqb (replyRefusal v r) 0 (sym (same r) ∙ e))
+    (ap (λ (us : List Reply). r ∷ us) (all-unrefused v rs (counted t r) (sound-counted t r sound e) (λ x. counted-refusal t r sound e x ∙ same x))))
 
 -- ---- more replies say more
 
@@ -154,7 +167,7 @@ module _ {us vs : List Reply} (more : Included us vs) where
   pub commits-grow : {quorum d : ℕ} {faults : List ℕ} → Commits quorum d faults us → Commits quorum d faults vs
   commits-grow {faults} c = record {
     enough = many-map heard-grows (c .enough);
-    covered = all-of-means _ 0 faults .1 (λ i l. many-map (left-grows (getD faults i 0)) (all-of-means _ 0 faults .0 (c .covered) i l));
+    covered = all-of-map (λ fault. many-map (left-grows fault)) faults (c .covered);
   }
 
 -- one reply more
@@ -321,8 +334,19 @@ module _ (faults : List ℕ) where
       by-reply t r
       (λ f u. Lent faults (replies (f (taken u rs)))
       → (afterAll u rs .committed ≡ true) ↔ Commits (t .quorum) (t .«data_shards») faults (us ++ replies (f (taken u rs))))
-      (all-exact rs t us right) (λ e c lent. rw append-assoc at (all-exact rs t (us ++ r ∷ []) (right-after right r c) (lent .1)))
+      (λ n. all-exact rs t us right) (λ e c lent. rw append-assoc at (all-exact rs t (us ++ r ∷ []) (right-after right r c) (lent .1)))
       (λ e c lent. rw append-assoc at (all-exact rs (counted t r) (us ++ r ∷ []) (right-counted right r e c (lent .0)) (lent .1)))
+
+  -- from a tally that has heard nobody
+  pub fresh-exact : (n quorum d w ballot high low : ℕ) → openRefusal n quorum d w ≡ 0 → (rs : List Reply)
+      → Lent faults (unrefused (fresh n quorum d w ballot high low) rs)
+      → (lastSaid (taken (fresh n quorum d w ballot high low) rs) ≡ true) ↔ Commits quorum d faults (unrefused (fresh n quorum d w ballot high low) rs)
+  unfolding fresh
+  fresh-exact n quorum d w ballot high low e rs =
+      let t = fresh n quorum d w ballot high low in
+      subst (λ (us : List Reply). Lent faults us → (lastSaid (taken t rs) ≡ true) ↔ Commits quorum d faults us)
+      (all-unrefused t rs t (sound-fresh n quorum d w ballot high low) (λ x. refl))
+      (λ lent. rw (last-is-committed rs t) (all-exact rs t [] (right-fresh n quorum d w ballot high low e) lent))
 
 -- two answers, each yes where the other is
 pub both-ways : {a b : Bool} → (a ≡ true → b ≡ true) → (b ≡ true → a ≡ true) → a ≡ b
