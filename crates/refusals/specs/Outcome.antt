@@ -6,12 +6,26 @@ pub data Outcome (A : Type 0) : Type 0 where
   accepted : A → Outcome A
 
 module _ {A : Type 0} where
-  -- of the number that refuses, or 0, and of the value that an unrefused input has
+  -- of the number that refuses, or 0, and of what an unrefused input comes to
+  abbrev pub checked : ℕ → Outcome A → Outcome A
+  checked zero o = o
+  checked (suc k) o = refused (suc k)
+
+  -- the same where that is a value
   abbrev pub outcome : ℕ → A → Outcome A
-  outcome zero a = accepted a
-  outcome (suc k) a = refused (suc k)
+  outcome k a = checked k (accepted a)
 
   -- what lent memory holds at exit: what is written, or where the input is refused what it held
   abbrev pub written : ℕ → A → A → A
   written zero after before = after
   written (suc k) after before = before
+
+  -- the same of an outcome
+  abbrev pub left : Outcome A → A → A
+  left (refused k) before = before
+  left (accepted after) before = after
+
+-- the next step, which has the value of the one before, where that is not refused
+abbrev pub andThen : {A B : Type 0} → Outcome A → (A → Outcome B) → Outcome B
+andThen (refused k) next = refused k
+andThen (accepted a) next = next a

@@ -1,0 +1,64 @@
+-- Whole numbers, and lists of them as masks. Assumes nothing.
+use mathlib.Core.Bool.{Bool, cond, _&&_, not}
+use mathlib.Core.List.{List, [], _∷_}
+use Prim.Native.Nat.{ℕ, _+_, _-_, _*_}
+use lib.Dec.{leb, ltb, eqb}
+use Rattle.lists.specs.All.{all}
+use Rattle.bitmap.specs.Mask.{withBit}
+use Rattle.refusals.specs.Numbers.{NUMERAL, MEMBER}
+use Rattle.refusals.specs.Outcome.{Outcome, refused, accepted, andThen}
+use Rattle.numerals.specs.Text.{isEmpty, trim, split}
+use Rattle.numerals.specs.Read.{readEach}
+use Rattle.numerals.specs.declared.Whole.{Whole}
+use Rattle.numerals.specs.declared.Whole.the-variants as Wholes
+use Rattle.numerals.specs.declared.Members.{Members}
+use Rattle.numerals.specs.declared.Members.the-variants as Memberships
+
+-- ---- digits
+
+abbrev pub isDigit : ℕ → Bool
+isDigit b = leb 48 b && leb b 57
+
+-- one or more digits
+unfoldable pub isDigits : List ℕ → Bool
+isDigits s = not (isEmpty s) && all isDigit s
+
+-- the number that digits spell after digits that are worth v
+unfoldable pub spelt : ℕ → List ℕ → ℕ
+spelt v [] = v
+spelt v (b ∷ bs) = spelt (v * 10 + (b - 48)) bs
+
+-- ---- a whole number
+
+-- without a + at its start
+unfoldable pub unplussed : List ℕ → List ℕ
+unplussed [] = []
+unplussed (b ∷ bs) = cond (eqb b 43) bs (b ∷ bs)
+
+-- an optional + and one or more digits, of a value of at most 255
+unfoldable pub wholeOf : List ℕ → Outcome ℕ
+wholeOf s = cond (isDigits (unplussed s) && leb (spelt 0 (unplussed s)) 255) (accepted (spelt 0 (unplussed s))) (refused NUMERAL)
+
+-- a whole number that must be below a limit
+unfoldable pub belowOf : ℕ → List ℕ → Outcome ℕ
+belowOf limit s = andThen (wholeOf s) (λ v. cond (ltb v limit) (accepted v) (refused MEMBER))
+
+-- ---- members between commas
+
+-- one member more; in some texts it is trimmed
+abbrev pub memberIn : Bool → ℕ → ℕ → List ℕ → Outcome ℕ
+memberIn trims limit m p = andThen (belowOf limit (cond trims (trim p) p)) (λ v. accepted (withBit m v))
+
+-- their mask
+unfoldable pub membersOf : Bool → ℕ → List ℕ → Outcome ℕ
+membersOf trims limit s = readEach (memberIn trims limit) 0 (split 44 s)
+
+-- ---- what the answers are
+
+abbrev pub whole : Whole → Outcome ℕ
+whole (Wholes.Refused k) = refused k
+whole (Wholes.Value v) = accepted v
+
+abbrev pub members : Members → Outcome ℕ
+members (Memberships.Refused k) = refused k
+members (Memberships.Mask m) = accepted m

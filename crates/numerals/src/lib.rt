@@ -1,0 +1,285 @@
+// Texts: the scanning that all of them share, and whole numbers.
+ghost use mathlib.Core.Path.{_≡_};
+ghost use mathlib.Core.Bool.{cond};
+ghost use Prim.Native.Nat.{_+_, _-_, _≤_};
+ghost use lib.ListN.{length, take, drop};
+ghost use Rattle.lists.specs.All.{all};
+ghost use Rattle.numerals.specs.Text.{isText, isAscii, isSame, isBlank, trimStart, trimEnd, trim, cut};
+ghost use Rattle.numerals.specs.TextLaws.{PartOf};
+ghost use Rattle.numerals.specs.Whole.{isDigit, isDigits, spelt, unplussed, wholeOf, belowOf, membersOf, whole, members};
+
+// A whole number, or the number of its fault.
+pub enum Whole {
+    Refused(u8),
+    Value(usize),
+}
+
+// The mask of a list of numbers, or the number of its first fault.
+pub enum Members {
+    Refused(u8),
+    Mask(u64),
+}
+
+// Whether s has at most so many bytes, all below 128.
+pub fn is_text(s: &[u8], most: usize) -> bool
+    ensures { λ r. ⌜ r ≡ isText most (now (s .entry)) ⌝ }
+{
+    if most < s.len() {
+        return false;
+    }
+    is_ascii(s)
+}
+
+// A whole number: an optional + and one or more digits, of a value of at most 255.
+pub fn read_whole(s: &[u8]) -> Whole
+    ensures { λ r. ⌜ whole r ≡ wholeOf (now (s .entry)) ⌝ }
+{
+    let u = unplussed(s);
+    if u.len() == 0 {
+        return Whole::Refused(refusals::NUMERAL);
+    }
+    let mut v: usize = 0;
+    let mut i = 0;
+    while i < u.len() {
+        let b = u[i];
+        if !is_digit(b) {
+            return Whole::Refused(refusals::NUMERAL);
+        }
+        v = v * 10 + digit(b);
+        if 255 < v {
+            return Whole::Refused(refusals::NUMERAL);
+        }
+        i += 1;
+    }
+    Whole::Value(v)
+}
+
+// A whole number below the limit.
+pub fn read_below(s: &[u8], limit: usize) -> Whole
+    ensures { λ r. ⌜ whole r ≡ belowOf limit (now (s .entry)) ⌝ }
+{
+    let w = read_whole(s);
+    match w {
+        Whole::Refused(no) => Whole::Refused(no),
+        Whole::Value(v) => {
+            if v < limit {
+                return Whole::Value(v);
+            }
+            Whole::Refused(refusals::MEMBER)
+        }
+    }
+}
+
+// The numbers between commas, each below the limit, as a mask. A part: a word has room for numbers below 64.
+pub fn read_members(s: &[u8], trims: bool, limit: usize) -> Members
+    requires { ⌜ limit ≤ 64 ⌝ }
+    ensures { λ r. ⌜ members r ≡ membersOf trims limit (now (s .entry)) ⌝ }
+{
+    let mut m: u64 = 0;
+    let mut p: usize = 0;
+    loop {
+        let q = part(s, p, b',');
+        match read_member(q, trims, limit) {
+            Whole::Refused(no) => {
+                return Members::Refused(no);
+            }
+            Whole::Value(v) => {
+                m = m | (1u64 << v);
+            }
+        }
+        p = p + q.len();
+        if p == s.len() {
+            return Members::Mask(m);
+        }
+        p += 1;
+    }
+}
+
+fn read_member(s: &[u8], trims: bool, limit: usize) -> Whole
+    ensures { λ r. ⌜ whole r ≡ belowOf limit (cond trims (trim (now (s .entry))) (now (s .entry))) ⌝ }
+{
+    if trims {
+        return read_below(trimmed(s), limit);
+    }
+    read_below(s, limit)
+}
+
+// s without the blanks at its ends.
+pub fn trimmed(s: &[u8]) -> &[u8]
+    ensures { λ r. ⌜ now r ≡ trim (now (s .entry)) ⌝ }
+{
+    let t = after(s, lead(s));
+    upto(t, stop(t))
+}
+
+// Whether s and t are the same bytes.
+pub fn same(s: &[u8], t: &[u8]) -> bool
+    ensures { λ r. ⌜ r ≡ isSame (now (s .entry)) (now (t .entry)) ⌝ }
+{
+    if s.len() != t.len() {
+        return false;
+    }
+    let mut i = 0;
+    while i < s.len() {
+        if s[i] != t[i] {
+            return false;
+        }
+        i += 1;
+    }
+    true
+}
+
+// The part of s from p up to the next x, or the end.
+pub fn part(s: &[u8], p: usize, x: u8) -> &[u8]
+    requires { ⌜ p ≤ length (now s) ⌝ }
+    ensures { λ r. ⌜ PartOf (now (s .entry)) p x (now r) ⌝ }
+{
+    let rest = after(s, p);
+    upto(rest, find(rest, x))
+}
+
+// Where the first x of s stands, or the length of s.
+pub fn find(s: &[u8], x: u8) -> usize
+    ensures { λ r. ⌜ r ≡ cut x (now (s .entry)) ⌝ }
+{
+    let mut i = 0;
+    while i < s.len() {
+        if s[i] == x {
+            return i;
+        }
+        i += 1;
+    }
+    i
+}
+
+// s from a on. What a part is as a list is said here, in `upto` and in `past`.
+pub fn after(s: &[u8], a: usize) -> &[u8]
+    requires { ⌜ a ≤ length (now s) ⌝ }
+    ensures { λ r. ⌜ now r ≡ drop a (now (s .entry)) ⌝ }
+{
+    &s[a..]
+}
+
+// The first e of s.
+pub fn upto(s: &[u8], e: usize) -> &[u8]
+    requires { ⌜ e ≤ length (now s) ⌝ }
+    ensures { λ r. ⌜ now r ≡ take e (now (s .entry)) ⌝ }
+{
+    &s[..e]
+}
+
+// s past the place c, which may be the end.
+pub fn past(s: &[u8], c: usize) -> &[u8]
+    requires { ⌜ c ≤ length (now s) ⌝ }
+    ensures { λ r. ⌜ now r ≡ drop (c + 1) (now (s .entry)) ⌝ }
+{
+    if c == s.len() {
+        return after(s, c);
+    }
+    after(s, c + 1)
+}
+
+// Whether s is one or more digits.
+pub fn is_digits(s: &[u8]) -> bool
+    ensures { λ r. ⌜ r ≡ isDigits (now (s .entry)) ⌝ }
+{
+    if s.len() == 0 {
+        return false;
+    }
+    all_digits(s)
+}
+
+// Whether every byte of s is a digit.
+pub fn all_digits(s: &[u8]) -> bool
+    ensures { λ r. ⌜ r ≡ all isDigit (now (s .entry)) ⌝ }
+{
+    let mut i = 0;
+    while i < s.len() {
+        if !is_digit(s[i]) {
+            return false;
+        }
+        i += 1;
+    }
+    true
+}
+
+fn is_digit(b: u8) -> bool
+    ensures { λ r. ⌜ r ≡ isDigit b ⌝ }
+{
+    b'0' <= b && b <= b'9'
+}
+
+// What a digit is worth. A part: the byte has been tested.
+fn digit(b: u8) -> usize
+    requires { ⌜ 48 ≤ b ⌝ }
+    ensures { λ r. ⌜ r ≡ b - 48 ⌝ }
+{
+    (b - b'0') as usize
+}
+
+// s without a + at its start.
+fn unplussed(s: &[u8]) -> &[u8]
+    ensures { λ r. ⌜ now r ≡ unplussed (now (s .entry)) ⌝ }
+{
+    if s.len() == 0 {
+        return s;
+    }
+    if s[0] == b'+' {
+        return after(s, 1);
+    }
+    s
+}
+
+fn is_ascii(s: &[u8]) -> bool
+    ensures { λ r. ⌜ r ≡ all isAscii (now (s .entry)) ⌝ }
+{
+    let mut i = 0;
+    while i < s.len() {
+        if 128 <= s[i] {
+            return false;
+        }
+        i += 1;
+    }
+    true
+}
+
+// Where the blanks at the start of s end.
+fn lead(s: &[u8]) -> usize
+    ensures { λ r. ⌜ (r ≤ length (now (s .entry))) × (drop r (now (s .entry)) ≡ trimStart (now (s .entry))) ⌝ }
+{
+    let mut i = 0;
+    while i < s.len() {
+        if !is_blank(s[i]) {
+            return i;
+        }
+        i += 1;
+    }
+    i
+}
+
+// Where the blanks at the end of s begin.
+fn stop(s: &[u8]) -> usize
+    ensures { λ r. ⌜ (r ≤ length (now (s .entry))) × (take r (now (s .entry)) ≡ trimEnd (now (s .entry))) ⌝ }
+{
+    let mut e = s.len();
+    while 0 < e {
+        let j = e - 1;
+        if !is_blank(s[j]) {
+            return e;
+        }
+        e = j;
+    }
+    e
+}
+
+fn is_blank(b: u8) -> bool
+    ensures { λ r. ⌜ r ≡ isBlank b ⌝ }
+{
+    if b < 9 {
+        return false;
+    }
+    if b <= 13 {
+        return true;
+    }
+    b == 32
+}

@@ -1,0 +1,1 @@
+// What rounding to a float format means. Laws alone: no code.
