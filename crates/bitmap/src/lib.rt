@@ -96,7 +96,8 @@ fn bit_at(m: u64, s: usize) -> bool
     (m >> s) % 2 == 1
 }
 
-fn with_bit(m: u64, s: usize) -> u64
+// m with the member s, whatever its members number. A part, as with_shard.
+pub fn with_bit(m: u64, s: usize) -> u64
     requires { ⌜ s < 64 ⌝ }
     ensures { λ r. ⌜ r ≡ withBit m s ⌝ }
 {

@@ -2,4 +2,6 @@
 pub mod Text
 pub mod TextLaws
 pub mod Read
+pub mod ReadLaws
 pub mod Whole
+pub mod WholeLaws

@@ -45,9 +45,13 @@ belowOf limit s = andThen (wholeOf s) (λ v. cond (ltb v limit) (accepted v) (re
 
 -- ---- members between commas
 
--- one member more; in some texts it is trimmed
-abbrev pub memberIn : Bool → ℕ → ℕ → List ℕ → Outcome ℕ
-memberIn trims limit m p = andThen (belowOf limit (cond trims (trim p) p)) (λ v. accepted (withBit m v))
+-- in some texts they are trimmed
+unfoldable pub memberOf : Bool → ℕ → List ℕ → Outcome ℕ
+memberOf trims limit p = belowOf limit (cond trims (trim p) p)
+
+-- one member more
+unfoldable pub memberIn : Bool → ℕ → ℕ → List ℕ → Outcome ℕ
+memberIn trims limit m p = andThen (memberOf trims limit p) (λ v. accepted (withBit m v))
 
 -- their mask
 unfoldable pub membersOf : Bool → ℕ → List ℕ → Outcome ℕ

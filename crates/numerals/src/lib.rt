@@ -1,12 +1,11 @@
 // Texts: the scanning that all of them share, and whole numbers.
 ghost use mathlib.Core.Path.{_≡_};
-ghost use mathlib.Core.Bool.{cond};
-ghost use Prim.Native.Nat.{_+_, _-_, _≤_};
+ghost use Prim.Native.Nat.{_+_, _≤_};
 ghost use lib.ListN.{length, take, drop};
 ghost use Rattle.lists.specs.All.{all};
 ghost use Rattle.numerals.specs.Text.{isText, isAscii, isSame, isBlank, trimStart, trimEnd, trim, cut};
 ghost use Rattle.numerals.specs.TextLaws.{PartOf};
-ghost use Rattle.numerals.specs.Whole.{isDigit, isDigits, spelt, unplussed, wholeOf, belowOf, membersOf, whole, members};
+ghost use Rattle.numerals.specs.Whole.{isDigit, isDigits, spelt, unplussed, wholeOf, belowOf, memberOf, membersOf, whole, members};
 
 // A whole number, or the number of its fault.
 pub enum Whole {
@@ -27,7 +26,7 @@ pub fn is_text(s: &[u8], most: usize) -> bool
     if most < s.len() {
         return false;
     }
-    is_ascii(s)
+    all_ascii(s)
 }
 
 // A whole number: an optional + and one or more digits, of a value of at most 255.
@@ -42,10 +41,13 @@ pub fn read_whole(s: &[u8]) -> Whole
     let mut i = 0;
     while i < u.len() {
         let b = u[i];
-        if !is_digit(b) {
+        if b < b'0' {
             return Whole::Refused(refusals::NUMERAL);
         }
-        v = v * 10 + digit(b);
+        if b'9' < b {
+            return Whole::Refused(refusals::NUMERAL);
+        }
+        v = v * 10 + wide(b - b'0');
         if 255 < v {
             return Whole::Refused(refusals::NUMERAL);
         }
@@ -84,7 +86,7 @@ pub fn read_members(s: &[u8], trims: bool, limit: usize) -> Members
                 return Members::Refused(no);
             }
             Whole::Value(v) => {
-                m = m | (1u64 << v);
+                m = bitmap::with_bit(m, v);
             }
         }
         p = p + q.len();
@@ -96,7 +98,7 @@ pub fn read_members(s: &[u8], trims: bool, limit: usize) -> Members
 }
 
 fn read_member(s: &[u8], trims: bool, limit: usize) -> Whole
-    ensures { λ r. ⌜ whole r ≡ belowOf limit (cond trims (trim (now (s .entry))) (now (s .entry))) ⌝ }
+    ensures { λ r. ⌜ whole r ≡ memberOf trims limit (now (s .entry)) ⌝ }
 {
     if trims {
         return read_below(trimmed(s), limit);
@@ -195,10 +197,11 @@ pub fn all_digits(s: &[u8]) -> bool
 {
     let mut i = 0;
     while i < s.len() {
-        if !is_digit(s[i]) {
+        if is_digit(s[i]) {
+            i += 1;
+        } else {
             return false;
         }
-        i += 1;
     }
     true
 }
@@ -209,12 +212,10 @@ fn is_digit(b: u8) -> bool
     b'0' <= b && b <= b'9'
 }
 
-// What a digit is worth. A part: the byte has been tested.
-fn digit(b: u8) -> usize
-    requires { ⌜ 48 ≤ b ⌝ }
-    ensures { λ r. ⌜ r ≡ b - 48 ⌝ }
+fn wide(x: u8) -> usize
+    ensures { λ r. ⌜ r ≡ x ⌝ }
 {
-    (b - b'0') as usize
+    x as usize
 }
 
 // s without a + at its start.
@@ -230,17 +231,25 @@ fn unplussed(s: &[u8]) -> &[u8]
     s
 }
 
-fn is_ascii(s: &[u8]) -> bool
+// Whether every byte of s is below 128.
+fn all_ascii(s: &[u8]) -> bool
     ensures { λ r. ⌜ r ≡ all isAscii (now (s .entry)) ⌝ }
 {
     let mut i = 0;
     while i < s.len() {
-        if 128 <= s[i] {
+        if is_ascii(s[i]) {
+            i += 1;
+        } else {
             return false;
         }
-        i += 1;
     }
     true
+}
+
+fn is_ascii(b: u8) -> bool
+    ensures { λ r. ⌜ r ≡ isAscii b ⌝ }
+{
+    b < 128
 }
 
 // Where the blanks at the start of s end.
@@ -249,10 +258,11 @@ fn lead(s: &[u8]) -> usize
 {
     let mut i = 0;
     while i < s.len() {
-        if !is_blank(s[i]) {
+        if is_blank(s[i]) {
+            i += 1;
+        } else {
             return i;
         }
-        i += 1;
     }
     i
 }
@@ -264,10 +274,11 @@ fn stop(s: &[u8]) -> usize
     let mut e = s.len();
     while 0 < e {
         let j = e - 1;
-        if !is_blank(s[j]) {
+        if is_blank(s[j]) {
+            e = j;
+        } else {
             return e;
         }
-        e = j;
     }
     e
 }
