@@ -12,12 +12,13 @@ dist a b = (a - b) + (b - a)
 abbrev pub between : Bool → ℕ → Bool → ℕ → ℕ
 between s a t b = cond (Bool·beq s t) (dist a b) (a + b)
 
--- a finite float is, but for its sign, over x / under x
+-- the numerator of a float but for its sign: a finite x is over x / under x
 abbrev pub over : Float → ℕ
 over nan = 0
 over (inf s) = 0
 over (fin s m e) = m * up e
 
+-- and its denominator
 abbrev pub under : Float → ℕ
 under nan = 1
 under (inf s) = 1
