@@ -1,4 +1,4 @@
--- Tests over the numbers below a bound, and a list written to the front of another. Assumes nothing.
+-- Tests and values over the numbers below a bound, and a list written to the front of another. Assumes nothing.
 use mathlib.Core.Bool.{Bool, false, cond, _||_}
 use mathlib.Core.List.{List, [], _∷_, _++_}
 use Prim.Native.Nat.{ℕ, zero, suc}
@@ -13,6 +13,11 @@ someBelow f (suc k) = f k || someBelow f k
 unfoldable pub thoseBelow : (ℕ → Bool) → ℕ → List ℕ
 thoseBelow f zero = []
 thoseBelow f (suc k) = thoseBelow f k ++ cond (f k) (k ∷ []) []
+
+-- f 0, f 1, .. f (k - 1)
+unfoldable pub eachBelow : {A : Type 0} → (ℕ → A) → ℕ → List A
+eachBelow f zero = []
+eachBelow f (suc k) = eachBelow f k ++ (f k ∷ [])
 
 -- xs at the front of the list l, which past it is as it was
 unfoldable pub front : List ℕ → List ℕ → List ℕ

@@ -1,0 +1,2 @@
+-- The layout text: what it is read to, and what refuses it.
+pub mod LayoutText
