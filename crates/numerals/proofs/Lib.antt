@@ -1,2 +1,3 @@
 -- Laws that several functions' proofs share.
 pub mod Scans
+pub mod Examples

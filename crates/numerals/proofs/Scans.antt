@@ -13,7 +13,7 @@ use Rattle.lists.specs.All.{all}
 use Rattle.bitmap.specs.Mask.{withBit}
 use Rattle.refusals.specs.Numbers.{NUMERAL}
 use Rattle.refusals.specs.Outcome.{Outcome, refused, accepted}
-use Rattle.numerals.specs.Text.{isBlank, trimStart, trimEnd, trim, cutBy, isByte, cut, isSame}
+use Rattle.numerals.specs.Text.{isBlank, trimStart, trimEnd, trim, cutBy, isSame}
 use Rattle.numerals.specs.Whole.{isDigit, isDigits, spelt, unplussed, wholeOf, memberOf, memberIn, whole}
 use Rattle.numerals.specs.WholeLaws.{below-limit}
 use Rattle.numerals.specs.declared.Whole.{Whole}

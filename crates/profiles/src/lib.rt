@@ -99,8 +99,8 @@ fn domains_fit(n: usize, p: Profile) -> bool
     refusals::are_masks(n, &domains[..count])
 }
 
-// Whether there are a probability for each of n replicas and a threshold, if there are probabilities.
-fn probs_fit(n: usize, p: Profile) -> bool
+// Whether there are a probability for each of n replicas and a threshold, if there are probabilities. A part, as profile_refusal.
+pub fn probs_fit(n: usize, p: Profile) -> bool
     requires { ⌜ n ≤ 16 ⌝ }
     ensures { λ r. ⌜ r ≡ probsFit n p ⌝ }
 {

@@ -1,8 +1,7 @@
 -- `numerals::read_below` meets its contract. Assumes nothing.
-use mathlib.Core.Path.{_≡_, sym, ap, _∙_}
+use mathlib.Core.Path.{sym, ap, _∙_}
 use borrow.Author.Tests.{lt-ltb, le-ltb}
 use borrow.Author.Needs.{needs}
-use Rattle.refusals.specs.Outcome.{refused, accepted}
 use Rattle.numerals.specs.Whole.{belowOf, whole}
 use Rattle.numerals.proofs.read_below.Statement.{statement}
 use Rattle.numerals.proofs.read_below.Tie as tie

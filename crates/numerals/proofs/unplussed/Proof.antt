@@ -1,5 +1,4 @@
 -- `numerals::unplussed` meets its contract. Assumes nothing.
-use mathlib.Core.Path.{_∙_}
 use borrow.Author.Needs.{needs}
 use Rattle.numerals.proofs.Scans.{plus-none, plus-taken, plus-bare}
 use Rattle.numerals.proofs.unplussed.Statement.{statement}

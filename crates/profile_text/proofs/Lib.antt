@@ -1,0 +1,1 @@
+-- How the code comes to what the definitions say, and worked values.

@@ -1,0 +1,274 @@
+// The text of a reliability profile (ReliabilityProfile::parse).
+ghost use mathlib.Core.Path.{_≡_};
+ghost use Prim.Native.Nat.{_<_, _≤_};
+ghost use Rattle.refusals.specs.Outcome.{Outcome, refused, accepted};
+ghost use Rattle.decimals.specs.Decimal.{decimal};
+ghost use Rattle.profile_text.specs.ProfileText.{nothing, withDomain, withRuntime, domainsIn, decimalsOf, thresholdOf, withChecked, probsIn, namedIn, mechanismIn, mechanismsOf, profileOf, parsed, decimals};
+use decimals::Decimal;
+use numerals::Members;
+use profiles::Profile;
+
+// The most bytes that a profile's text has.
+const MOST_BYTES: usize = 4096;
+
+pub enum Reading {
+    Refused(u8),
+    Read,
+}
+
+// The number that refuses, beside a profile of nothing; or the profile.
+pub struct Parsed {
+    pub answer: Reading,
+    pub profile: Profile,
+}
+
+// A list of decimals: how many, and the first 16 of them.
+struct Decimals {
+    answer: Reading,
+    count: usize,
+    values: [f64; 16],
+}
+
+// The profile of n replicas that a text says.
+pub fn parse_profile(n: usize, s: &[u8]) -> Parsed
+    ensures { λ r. ⌜ r ≡ parsed (profileOf n (now (s .entry))) ⌝ }
+{
+    if !refusals::is_population(n) {
+        return refused(refusals::POPULATION);
+    }
+    if !numerals::is_text(s, MOST_BYTES) {
+        return refused(refusals::TEXT);
+    }
+    read_mechanisms(n, s)
+}
+
+// The mechanisms between `;`, from the left.
+fn read_mechanisms(n: usize, s: &[u8]) -> Parsed
+    requires { ⌜ n ≤ 16 ⌝ }
+    ensures { λ r. ⌜ r ≡ parsed (mechanismsOf n (now (s .entry))) ⌝ }
+{
+    let mut p = nothing();
+    let mut at: usize = 0;
+    loop {
+        let q = numerals::part(s, at, b';');
+        let r = read_mechanism(n, p, q);
+        let a = r.answer;
+        match a {
+            Reading::Refused(no) => {
+                return refused(no);
+            }
+            Reading::Read => {
+                p = r.profile;
+            }
+        }
+        at = at + q.len();
+        if at == s.len() {
+            return read(p);
+        }
+        at += 1;
+    }
+}
+
+// A mechanism: empty ones and `none` are skipped.
+fn read_mechanism(n: usize, p: Profile, s: &[u8]) -> Parsed
+    requires { ⌜ n ≤ 16 ⌝ }
+    ensures { λ r. ⌜ r ≡ parsed (mechanismIn n p (now (s .entry))) ⌝ }
+{
+    let t = numerals::trimmed(s);
+    if t.len() == 0 {
+        return read(p);
+    }
+    if numerals::same(t, b"none") {
+        return read(p);
+    }
+    let c = numerals::find(t, b':');
+    read_named(n, p, numerals::trimmed(numerals::upto(t, c)), numerals::past(t, c))
+}
+
+// A mechanism by its name, with what follows its colon.
+fn read_named(n: usize, p: Profile, name: &[u8], args: &[u8]) -> Parsed
+    requires { ⌜ n ≤ 16 ⌝ }
+    ensures { λ r. ⌜ r ≡ parsed (namedIn n p (now (name .entry)) (now (args .entry))) ⌝ }
+{
+    if numerals::same(name, b"domains") {
+        return read_domains(n, p, args);
+    }
+    if numerals::same(name, b"probs") {
+        return read_probs(n, p, args);
+    }
+    if numerals::same(name, b"runtime") {
+        return read(with_runtime(p));
+    }
+    refused(refusals::MECHANISM)
+}
+
+// The sets between `/`, each added to the domains.
+fn read_domains(n: usize, p: Profile, args: &[u8]) -> Parsed
+    requires { ⌜ n ≤ 16 ⌝ }
+    ensures { λ r. ⌜ r ≡ parsed (domainsIn n p (now (args .entry))) ⌝ }
+{
+    let mut u = p;
+    let mut at: usize = 0;
+    loop {
+        let q = numerals::part(args, at, b'/');
+        if 64 <= u.domain_count {
+            return refused(refusals::DOMAINS);
+        }
+        match numerals::read_members(q, true, n) {
+            Members::Refused(no) => {
+                return refused(no);
+            }
+            Members::Mask(m) => {
+                let v = with_domain(u, m);
+                u = v;
+            }
+        }
+        at = at + q.len();
+        if at == args.len() {
+            return read(u);
+        }
+        at += 1;
+    }
+}
+
+// The decimals, and the threshold after the first `@`; they are tested after all have been read.
+fn read_probs(n: usize, p: Profile, args: &[u8]) -> Parsed
+    requires { ⌜ n ≤ 16 ⌝ }
+    ensures { λ r. ⌜ r ≡ parsed (probsIn n p (now (args .entry))) ⌝ }
+{
+    let c = numerals::find(args, b'@');
+    let list = read_decimals(numerals::upto(args, c));
+    let a = list.answer;
+    match a {
+        Reading::Refused(no) => refused(no),
+        Reading::Read => match read_threshold(numerals::past(args, c)) {
+            Decimal::Refused(no) => refused(no),
+            Decimal::Value(t) => checked(n, p, list, t),
+        },
+    }
+}
+
+// Decimals between commas.
+fn read_decimals(s: &[u8]) -> Decimals
+    ensures { λ r. ⌜ r ≡ decimals (decimalsOf (now (s .entry))) ⌝ }
+{
+    let mut values = [0.0; 16];
+    let mut count: usize = 0;
+    let mut at: usize = 0;
+    loop {
+        let q = numerals::part(s, at, b',');
+        match decimals::read_decimal(numerals::trimmed(q)) {
+            Decimal::Refused(no) => {
+                return Decimals {
+                    answer: Reading::Refused(no),
+                    count: 0,
+                    values: [0.0; 16],
+                };
+            }
+            Decimal::Value(x) => {
+                if count < 16 {
+                    values[count] = x;
+                }
+                count += 1;
+            }
+        }
+        at = at + q.len();
+        if at == s.len() {
+            return Decimals {
+                answer: Reading::Read,
+                count: count,
+                values: values,
+            };
+        }
+        at += 1;
+    }
+}
+
+// A threshold; blank means 1e-3.
+fn read_threshold(s: &[u8]) -> Decimal
+    ensures { λ r. ⌜ decimal r ≡ thresholdOf (now (s .entry)) ⌝ }
+{
+    let t = numerals::trimmed(s);
+    if t.len() == 0 {
+        return Decimal::Value(1e-3);
+    }
+    decimals::read_decimal(t)
+}
+
+// The profile with the probabilities, if they are right for n replicas.
+fn checked(n: usize, p: Profile, list: Decimals, t: f64) -> Parsed
+    requires { ⌜ n ≤ 16 ⌝ }
+    ensures { λ r. ⌜ (ps : List Float) → list ≡ decimals (accepted ps) → r ≡ parsed (withChecked n p ps t) ⌝ }
+{
+    let u = with_probs(p, list, t);
+    if profiles::probs_fit(n, u) {
+        return read(u);
+    }
+    refused(refusals::PROBABILITIES)
+}
+
+fn with_probs(p: Profile, list: Decimals, t: f64) -> Profile
+    ensures { λ r. ⌜ (ps : List Float) → list ≡ decimals (accepted ps) → r ≡ withProbs p ps t ⌝ }
+{
+    let values = list.values;
+    let domains = p.domains;
+    Profile {
+        domain_count: p.domain_count,
+        prob_count: list.count,
+        runtime: p.runtime,
+        threshold: t,
+        probs: values,
+        domains: domains,
+    }
+}
+
+fn with_domain(p: Profile, m: u64) -> Profile
+    requires { ⌜ p .«domain_count» < 64 ⌝ }
+    ensures { λ r. ⌜ r ≡ withDomain p m ⌝ }
+{
+    let mut u = p;
+    let k = p.domain_count;
+    u.domains[k] = m;
+    u.domain_count = k + 1;
+    u
+}
+
+fn with_runtime(p: Profile) -> Profile
+    ensures { λ r. ⌜ r ≡ withRuntime p ⌝ }
+{
+    let mut u = p;
+    u.runtime = true;
+    u
+}
+
+// A profile that says nothing.
+fn nothing() -> Profile
+    ensures { λ r. ⌜ r ≡ nothing ⌝ }
+{
+    Profile {
+        domain_count: 0,
+        prob_count: 0,
+        runtime: false,
+        threshold: 0.0,
+        probs: [0.0; 16],
+        domains: [0; 64],
+    }
+}
+
+fn read(p: Profile) -> Parsed
+    ensures { λ r. ⌜ r ≡ parsed (accepted p) ⌝ }
+{
+    Parsed {
+        answer: Reading::Read,
+        profile: p,
+    }
+}
+
+fn refused(no: u8) -> Parsed
+    ensures { λ r. ⌜ r ≡ parsed (refused no) ⌝ }
+{
+    Parsed {
+        answer: Reading::Refused(no),
+        profile: nothing(),
+    }
+}
