@@ -1,6 +1,18 @@
 // Decimals: a double from digits, a point and an exponent.
 ghost use mathlib.Core.Path.{_≡_};
-ghost use Rattle.decimals.specs.Decimal.{decimalOf, decimal};
+ghost use mathlib.Core.Bool.{true, false, cond, _&&_};
+ghost use mathlib.Core.List.{[]};
+ghost use Prim.Native.Nat.{_+_, _*_, _^_, _≤_, _<_};
+ghost use lib.Dec.{leb};
+ghost use lib.Ieee.{binary64, round};
+ghost use lib.Ieee.Exact.{HasValue};
+ghost use lib.ListN.{length};
+ghost use Rattle.lists.specs.All.{all};
+ghost use Rattle.refusals.specs.Numbers.{DIGITS};
+ghost use Rattle.refusals.specs.Outcome.{refused, accepted};
+ghost use Rattle.numerals.specs.Text.{cutBy};
+ghost use Rattle.numerals.specs.Whole.{isDigit, spelt};
+ghost use Rattle.decimals.specs.Decimal.{isNegative, unsigned, isE, isWellFormed, readOf, decimalOf, decimal};
 
 // A double, or the number of the decimal's fault.
 pub enum Decimal {
@@ -12,5 +24,200 @@ pub enum Decimal {
 pub fn read_decimal(s: &[u8]) -> Decimal
     ensures { λ r. ⌜ decimal r ≡ decimalOf (now (s .entry)) ⌝ }
 {
-    Decimal::Refused(7)
+    let u = unsigned(s);
+    let c = find_e(u);
+    let m = numerals::upto(u, c);
+    let x = numerals::past(u, c);
+    let p = numerals::find(m, b'.');
+    let i = numerals::upto(m, p);
+    let f = numerals::past(m, p);
+    let q = unsigned(x);
+    read_parts(is_negative(s), i, f, c < u.len(), is_negative(x), q)
 }
+
+// The same of its parts: the digits before the point and those after it, and the exponent's, if there is one.
+fn read_parts(negative: bool, i: &[u8], f: &[u8], raised: bool, lowers: bool, q: &[u8]) -> Decimal
+    requires { ⌜ (raised ≡ false → now q ≡ []) ⌝ }
+    ensures { λ r. ⌜ decimal r ≡ readOf (record {
+        negative = negative; whole = now (i .entry); fraction = now (f .entry); raised = raised; lowers = lowers; power = now (q .entry); }) ⌝ }
+{
+    if !is_well_formed(i, f, raised, q) {
+        return Decimal::Refused(refusals::NUMERAL);
+    }
+    if 15 < i.len() + f.len() {
+        return Decimal::Refused(refusals::DIGITS);
+    }
+    if 4 < q.len() {
+        return Decimal::Refused(refusals::DIGITS);
+    }
+    let m = digits(i, f);
+    let e = power(q);
+    if lowers {
+        return fit(negative, m, 0, e + f.len());
+    }
+    fit(negative, m, e, f.len())
+}
+
+fn is_well_formed(i: &[u8], f: &[u8], raised: bool, q: &[u8]) -> bool
+    ensures { λ r. ⌜ r ≡ isWellFormed (record {
+        negative = false; whole = now (i .entry); fraction = now (f .entry); raised = raised; lowers = false; power = now (q .entry); }) ⌝ }
+{
+    if !numerals::all_digits(i) {
+        return false;
+    }
+    if !numerals::all_digits(f) {
+        return false;
+    }
+    if i.len() + f.len() == 0 {
+        return false;
+    }
+    if !raised {
+        return true;
+    }
+    numerals::is_digits(q)
+}
+
+// m * 10 ^ ups / 10 ^ downs, where the power that is left is from -22 to 22.
+fn fit(negative: bool, m: u64, ups: usize, downs: usize) -> Decimal
+    requires { ⌜ (m < 10 ^ 15) × (ups ≤ 10 ^ 5) × (downs ≤ 10 ^ 5) ⌝ }
+    ensures { λ r. ⌜ decimal r ≡ cond (leb ups (downs + 22) && leb downs (ups + 22)) (accepted (round binary64 negative (m * 10 ^ ups) (10 ^ downs))) (refused DIGITS) ⌝ }
+{
+    if downs + 22 < ups {
+        return Decimal::Refused(refusals::DIGITS);
+    }
+    if ups + 22 < downs {
+        return Decimal::Refused(refusals::DIGITS);
+    }
+    Decimal::Value(scaled(negative, m, ups, downs))
+}
+
+// All the digits as one number. A part: they have been tested and counted.
+fn digits(i: &[u8], f: &[u8]) -> u64
+    requires { ⌜ (all isDigit (now i) ≡ true) × (all isDigit (now f) ≡ true) × (length (now i) + length (now f) ≤ 15) ⌝ }
+    ensures { λ r. ⌜ (r ≡ spelt (spelt 0 (now (i .entry))) (now (f .entry))) × (r < 10 ^ 15) ⌝ }
+{
+    spelt(f, spelt(i, 0))
+}
+
+// The number of the exponent. A part: its digits have been tested and counted.
+fn power(q: &[u8]) -> usize
+    requires { ⌜ (all isDigit (now q) ≡ true) × (length (now q) ≤ 4) ⌝ }
+    ensures { λ r. ⌜ (r ≡ spelt 0 (now (q .entry))) × (r < 10 ^ 4) ⌝ }
+{
+    spelt(q, 0) as usize
+}
+
+// The number that the digits of s spell after digits that are worth v. A part: they have been tested and counted.
+fn spelt(s: &[u8], v: u64) -> u64
+    requires { ⌜ (all isDigit (now s) ≡ true) × ((v + 1) * 10 ^ length (now s) ≤ 10 ^ 15) ⌝ }
+    ensures { λ r. ⌜ r ≡ spelt v (now (s .entry)) ⌝ }
+{
+    let mut w = v;
+    let mut i = 0;
+    while i < s.len() {
+        w = w * 10 + (s[i] - b'0') as u64;
+        i += 1;
+    }
+    w
+}
+
+// Whether s has a - at its start.
+fn is_negative(s: &[u8]) -> bool
+    ensures { λ r. ⌜ r ≡ isNegative (now (s .entry)) ⌝ }
+{
+    if s.len() == 0 {
+        return false;
+    }
+    s[0] == b'-'
+}
+
+// s without a sign at its start.
+fn unsigned(s: &[u8]) -> &[u8]
+    ensures { λ r. ⌜ now r ≡ unsigned (now (s .entry)) ⌝ }
+{
+    if s.len() == 0 {
+        return s;
+    }
+    if s[0] == b'+' {
+        return numerals::after(s, 1);
+    }
+    if s[0] == b'-' {
+        return numerals::after(s, 1);
+    }
+    s
+}
+
+// Where the first e or E of s stands, or the length of s.
+fn find_e(s: &[u8]) -> usize
+    ensures { λ r. ⌜ r ≡ cutBy isE (now (s .entry)) ⌝ }
+{
+    let mut i = 0;
+    while i < s.len() {
+        if is_e(s[i]) {
+            return i;
+        }
+        i += 1;
+    }
+    i
+}
+
+fn is_e(b: u8) -> bool
+    ensures { λ r. ⌜ r ≡ isE b ⌝ }
+{
+    b == b'e' || b == b'E'
+}
+
+// m * 10 ^ ups / 10 ^ downs with its sign, rounded once. A part: the powers have been tested.
+fn scaled(negative: bool, m: u64, ups: usize, downs: usize) -> f64
+    requires { ⌜ (m < 10 ^ 15) × (ups ≤ downs + 22) × (downs ≤ ups + 22) ⌝ }
+    ensures { λ r. ⌜ r ≡ round binary64 negative (m * 10 ^ ups) (10 ^ downs) ⌝ }
+{
+    let x = magnitude(m, ups, downs);
+    if negative { -x } else { x }
+}
+
+// The same of no sign: a product or a quotient of two whole numbers that a double holds.
+fn magnitude(m: u64, ups: usize, downs: usize) -> f64
+    requires { ⌜ (m < 10 ^ 15) × (ups ≤ downs + 22) × (downs ≤ ups + 22) ⌝ }
+    ensures { λ r. ⌜ r ≡ round binary64 false (m * 10 ^ ups) (10 ^ downs) ⌝ }
+{
+    let x = m as f64;
+    if downs <= ups {
+        return x * ten(ups - downs);
+    }
+    x / ten(downs - ups)
+}
+
+// A power of ten that a double holds.
+fn ten(k: usize) -> f64
+    requires { ⌜ k ≤ 22 ⌝ }
+    ensures { λ r. ⌜ HasValue r false (10 ^ k) 1 ⌝ }
+{
+    TENS[k]
+}
+
+const TENS: [f64; 23] = [
+    1e0,
+    1e1,
+    1e2,
+    1e3,
+    1e4,
+    1e5,
+    1e6,
+    1e7,
+    1e8,
+    1e9,
+    1e10,
+    1e11,
+    1e12,
+    1e13,
+    1e14,
+    1e15,
+    1e16,
+    1e17,
+    1e18,
+    1e19,
+    1e20,
+    1e21,
+    1e22,
+];

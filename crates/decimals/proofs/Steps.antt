@@ -1,0 +1,81 @@
+-- A sign at the start of a text, and one step of the loop over digits. Assumes nothing.
+use mathlib.Core.Path.{_≡_, refl, sym, ap, _∙_}
+use mathlib.Core.Bool.{Bool, true, false}
+use mathlib.Core.List.{List, [], _∷_}
+use Prim.Native.Nat.{ℕ, suc, _+_, _-_, _*_, _^_, _≤_, _<_}
+use native.Mathlib.Nat.{mul-le-mul-left, one-le-pow}
+use native.Mathlib.Numerals.{add-one}
+use native.Mathlib.Omega.{arith}
+use borrow.Author.Tests.{eq-eqb, ne-eqb, ltb-false}
+use lib.Dec.{eqb, ltb}
+use lib.ListN.{length, getD, drop, drop-of-length-le}
+use lib.Seq.{drop-cons}
+use Rattle.lists.specs.All.{all}
+use Rattle.lists.specs.AllLaws.{all-means}
+use Rattle.numerals.specs.Whole.{isDigit, spelt}
+use Rattle.decimals.specs.Decimal.{isNegative, unsigned}
+use Rattle.decimals.specs.DigitLaws.{digit-range, room-step}
+
+-- ---- a sign
+pub negative-none : (s : List ℕ) → length s ≡ 0 → false ≡ isNegative s
+unfolding isNegative
+negative-none [] h = refl
+negative-none (b ∷ bs) h = absurd (omega arith)
+
+pub negative-at : (s : List ℕ) → (length s ≡ 0 → ⊥) → eqb (getD s 0 0) 45 ≡ isNegative s
+unfolding isNegative
+negative-at [] h = absurd (h refl)
+negative-at (b ∷ bs) h = refl
+
+pub sign-none : (s : List ℕ) → length s ≡ 0 → s ≡ unsigned s
+unfolding unsigned
+sign-none [] h = refl
+sign-none (b ∷ bs) h = absurd (omega arith)
+
+pub sign-plus : (s r : List ℕ) → (length s ≡ 0 → ⊥) → getD s 0 0 ≡ 43 → r ≡ drop 1 s → r ≡ unsigned s
+unfolding unsigned
+sign-plus [] r h e q = absurd (h refl)
+sign-plus (b ∷ bs) r h e q = q ∙ sym (simp (eq-eqb b 43 e))
+
+pub sign-minus : (s r : List ℕ) → (length s ≡ 0 → ⊥) → (getD s 0 0 ≡ 43 → ⊥) → getD s 0 0 ≡ 45 → r ≡ drop 1 s → r ≡ unsigned s
+unfolding unsigned
+sign-minus [] r h d e q = absurd (h refl)
+sign-minus (b ∷ bs) r h d e q = q ∙ sym (simp (ne-eqb b 43 d, eq-eqb b 45 e))
+
+pub sign-bare : (s : List ℕ) → (length s ≡ 0 → ⊥) → (getD s 0 0 ≡ 43 → ⊥) → (getD s 0 0 ≡ 45 → ⊥) → s ≡ unsigned s
+unfolding unsigned
+sign-bare [] h d e = absurd (h refl)
+sign-bare (b ∷ bs) h d e = sym (simp (ne-eqb b 43 d, ne-eqb b 45 e))
+
+-- ---- digits
+module _ (i : ℕ) (s : List ℕ) (e : all isDigit s ≡ true) (h : i < length s) where
+  pub digit-at : (48 ≤ getD s i 0) × (getD s i 0 ≤ 57)
+  digit-at = digit-range (getD s i 0) (all-means isDigit 0 s .0 e i h)
+
+-- there is room for v and n digits after it
+pub room-small : (v n most : ℕ) → (v + 1) * 10 ^ n ≤ most → v < most
+room-small v n most g =
+    let k : (v + 1) * 1 ≤ (v + 1) * 10 ^ n = mul-le-mul-left (v + 1) (one-le-pow n 10 (omega arith)) in
+    omega arith
+
+module _ (v i most : ℕ) (s : List ℕ) (e : all isDigit s ≡ true) (h : i < length s) where
+  pub room-next : (v + 1) * 10 ^ (length s - i) ≤ most → (v * 10 + (getD s i 0 - 48) + 1) * 10 ^ (length s - (i + 1)) ≤ most
+  room-next g =
+      let k : length s - i ≡ suc (length s - (i + 1)) = omega arith in
+      let d = digit-at i s e h in
+      room-step v (getD s i 0 - 48) (length s - (i + 1)) most (omega (arith, d .1)) (rw k at g)
+
+-- v is what the digits before i spell
+module _ (v i : ℕ) (s : List ℕ) {n : ℕ} (inv : n ≡ spelt v (drop i s)) where
+  pub spelt-next : i < length s → n ≡ spelt (v * 10 + (getD s i 0 - 48)) (drop (i + 1) s)
+  unfolding spelt
+  spelt-next h = inv ∙ rw (drop-cons s i 0 h, add-one)
+
+  pub spelt-end : length s ≤ i → v ≡ n
+  unfolding spelt
+  spelt-end h = sym (inv ∙ simp (drop-of-length-le s h))
+
+-- ---- no letter, no exponent
+pub no-exponent : (u x q : List ℕ) (c : ℕ) → x ≡ drop (c + 1) u → q ≡ unsigned x → ltb c (length u) ≡ false → q ≡ []
+unfolding unsigned
+no-exponent u x q c e d h = d ∙ rw (e, drop-of-length-le u {i = c + 1} (omega (arith, ltb-false c (length u) h)))

@@ -1,0 +1,15 @@
+-- `decimals::power` meets its contract. Assumes nothing.
+use mathlib.Core.Path.{_∙_}
+use native.Mathlib.Omega.{arith}
+use Rattle.decimals.specs.DigitLaws.{room-for, spelt-small}
+use Rattle.decimals.proofs.power.Statement.{statement}
+use Rattle.decimals.proofs.power.Tie as tie
+
+pub power-spec : {M : Type 1} → statement M
+power-spec =
+    tie.close
+    (tie.spec
+    (λ c κs. let p = c .before .pre in (p .0, room-for _ 15 (omega arith)))
+    (λ c.
+    let p = c .before .before .pre in
+    (c .spelt .ensures, rw (c .spelt .ensures) (spelt-small _ 4 (p .0) (p .1)))))

@@ -1,0 +1,55 @@
+-- `decimals::read_parts` meets its contract. Assumes nothing.
+use mathlib.Core.Path.{sym, _∙_}
+use mathlib.Core.Bool.{Bool, false}
+use mathlib.Core.List.{List}
+use Prim.Native.Nat.{ℕ}
+use native.Mathlib.Nat.{zero-add}
+use borrow.Author.Needs.{needs}
+use borrow.Author.Tests.{le-leb, lt-leb, not-true, not-false}
+use Rattle.decimals.specs.Decimal.{Written}
+use Rattle.decimals.specs.DigitLaws.{formed}
+use Rattle.decimals.proofs.read_parts.Statement.{statement}
+use Rattle.decimals.proofs.read_parts.Tie as tie
+
+-- neither sign is asked for
+abbrev parts : List ℕ → List ℕ → Bool → List ℕ → Written
+parts i f raised q = record { negative = false; whole = i; fraction = f; raised = raised; lowers = false; power = q }
+
+pub read-parts-spec : {M : Type 1} → statement M
+read-parts-spec =
+    tie.close
+    (tie.spec
+    (λ c κs. search needs)
+    (λ c. rw (sym (c .before .is-well-formed .ensures) ∙ not-true _ (c .if1 .taken)))
+    (λ c. search needs)
+    (λ c.
+    let g = c .before in
+    rw (sym (g .before .is-well-formed .ensures) ∙ not-false _ (g .if1 .left), lt-leb _ _ (c .if2 .taken)))
+    (λ c.
+    let g = c .before .before in
+    rw (sym (g .before .is-well-formed .ensures) ∙ not-false _ (g .if1 .left), le-leb _ _ (c .before .if2 .left), lt-leb _ _ (c .if3 .taken)))
+    (λ c κs.
+    let g = c .before .before in
+    let a = g .before .before .before .before .before .args in
+    let d = formed (parts (a .i .now) (a .f .now) (a .raised) (a .q .now)) (sym (g .before .is-well-formed .ensures) ∙ not-false _ (g .if1 .left)) in
+    (d .whole-digits, d .fraction-digits, c .before .if2 .left))
+    (λ c κs.
+    let g = c .before .before .before in
+    let s = g .before .before .before .before .before in
+    let d = formed (parts (s .args .i .now) (s .args .f .now) (s .args .raised) (s .args .q .now)) (sym (g .before .is-well-formed .ensures) ∙ not-false _ (g .if1 .left)) in
+    (d .power-digits (s .pre), c .before .if3 .left))
+    (λ c. search needs)
+    (λ c κs. search needs)
+    (λ c.
+    let p = c .before .before in
+    let h = p .before .before in
+    let g = h .before .before in
+    rw (sym (g .before .is-well-formed .ensures) ∙ not-false _ (g .if1 .left), le-leb _ _ (h .before .if2 .left), le-leb _ _ (h .if3 .left), c .before .if4 .taken)
+    (c .fit .ensures ∙ rw (p .power .ensures .0, p .before .digits .ensures .0)))
+    (λ c κs. search needs)
+    (λ c.
+    let p = c .before .before in
+    let h = p .before .before in
+    let g = h .before .before in
+    rw (sym (g .before .is-well-formed .ensures) ∙ not-false _ (g .if1 .left), le-leb _ _ (h .before .if2 .left), le-leb _ _ (h .if3 .left), c .before .if4 .left, zero-add)
+    (c .fit2 .ensures ∙ rw (p .power .ensures .0, p .before .digits .ensures .0))))
