@@ -49,16 +49,19 @@ withDomain p m = record {
   domains = set (p .domains) (p .«domain_count») m;
 }
 
--- other probabilities, and another threshold
-unfoldable pub withProbs : Profile → List Float → Float → Profile
-withProbs p ps t = record {
+-- other probabilities, as many as are counted, and another threshold
+unfoldable pub withWords : Profile → ℕ → List Float → Float → Profile
+withWords p count probs t = record {
   «domain_count» = p .«domain_count»;
-  «prob_count» = length ps;
+  «prob_count» = count;
   runtime = p .runtime;
   threshold = t;
-  probs = filled 16 plusZero ps;
+  probs = probs;
   domains = p .domains;
 }
+
+abbrev pub withProbs : Profile → List Float → Float → Profile
+withProbs p ps t = withWords p (length ps) (filled 16 plusZero ps) t
 
 unfoldable pub withRuntime : Profile → Profile
 withRuntime p = record {
@@ -95,12 +98,13 @@ defaultThreshold = round binary64 false 1 1000
 unfoldable pub thresholdOf : List ℕ → Outcome Float
 thresholdOf s = cond (isEmpty (trim s)) (accepted defaultThreshold) (decimalOf (trim s))
 
--- 11 is tested after all of them have been read, and as in a profile that is handed in
-unfoldable pub withChecked : ℕ → Profile → List Float → Float → Outcome Profile
-withChecked n p ps t = cond (probsFit n (withProbs p ps t)) (accepted (withProbs p ps t)) (refused PROBABILITIES)
+-- 11 is tested as in a profile that is handed in
+unfoldable pub fitting : ℕ → Profile → Outcome Profile
+fitting n p = cond (probsFit n p) (accepted p) (refused PROBABILITIES)
 
+-- and after all of them have been read
 unfoldable pub probsIn : ℕ → Profile → List ℕ → Outcome Profile
-probsIn n p args = andThen (decimalsOf (before 64 args)) (λ ps. andThen (thresholdOf (behind 64 args)) (λ t. withChecked n p ps t))
+probsIn n p args = andThen (decimalsOf (before 64 args)) (λ ps. andThen (thresholdOf (behind 64 args)) (λ t. fitting n (withProbs p ps t)))
 
 -- ---- mechanisms
 

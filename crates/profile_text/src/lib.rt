@@ -3,7 +3,7 @@ ghost use mathlib.Core.Path.{_≡_};
 ghost use Prim.Native.Nat.{_<_, _≤_};
 ghost use Rattle.refusals.specs.Outcome.{Outcome, refused, accepted};
 ghost use Rattle.decimals.specs.Decimal.{decimal};
-ghost use Rattle.profile_text.specs.ProfileText.{nothing, withDomain, withRuntime, domainsIn, decimalsOf, thresholdOf, withChecked, probsIn, namedIn, mechanismIn, mechanismsOf, profileOf, parsed, decimals};
+ghost use Rattle.profile_text.specs.ProfileText.{nothing, withDomain, withWords, withRuntime, domainsIn, decimalsOf, thresholdOf, fitting, probsIn, namedIn, mechanismIn, mechanismsOf, profileOf, parsed, decimals};
 use decimals::Decimal;
 use numerals::Members;
 use profiles::Profile;
@@ -139,11 +139,12 @@ fn read_probs(n: usize, p: Profile, args: &[u8]) -> Parsed
     let c = numerals::find(args, b'@');
     let list = read_decimals(numerals::upto(args, c));
     let a = list.answer;
+    let probs = list.values;
     match a {
         Reading::Refused(no) => refused(no),
         Reading::Read => match read_threshold(numerals::past(args, c)) {
             Decimal::Refused(no) => refused(no),
-            Decimal::Value(t) => checked(n, p, list, t),
+            Decimal::Value(t) => fitting(n, with_words(p, list.count, probs, t)),
         },
     }
 }
@@ -195,31 +196,25 @@ fn read_threshold(s: &[u8]) -> Decimal
     decimals::read_decimal(t)
 }
 
-// The profile with the probabilities, if they are right for n replicas.
-fn checked(n: usize, p: Profile, list: Decimals, t: f64) -> Parsed
+// The profile, if its probabilities and its threshold are right for n replicas.
+fn fitting(n: usize, p: Profile) -> Parsed
     requires { ⌜ n ≤ 16 ⌝ }
-    ensures { λ r. ⌜ (ps : List Float) → list ≡ decimals (accepted ps) → r ≡ parsed (withChecked n p ps t) ⌝ }
+    ensures { λ r. ⌜ r ≡ parsed (fitting n p) ⌝ }
 {
-    let u = with_probs(p, list, t);
-    if profiles::probs_fit(n, u) {
-        return read(u);
+    if profiles::probs_fit(n, p) {
+        return read(p);
     }
     refused(refusals::PROBABILITIES)
 }
 
-fn with_probs(p: Profile, list: Decimals, t: f64) -> Profile
-    ensures { λ r. ⌜ (ps : List Float) → list ≡ decimals (accepted ps) → r ≡ withProbs p ps t ⌝ }
+fn with_words(p: Profile, count: usize, probs: [f64; 16], t: f64) -> Profile
+    ensures { λ r. ⌜ r ≡ withWords p count probs t ⌝ }
 {
-    let values = list.values;
-    let domains = p.domains;
-    Profile {
-        domain_count: p.domain_count,
-        prob_count: list.count,
-        runtime: p.runtime,
-        threshold: t,
-        probs: values,
-        domains: domains,
-    }
+    let mut u = p;
+    u.prob_count = count;
+    u.probs = probs;
+    u.threshold = t;
+    u
 }
 
 fn with_domain(p: Profile, m: u64) -> Profile
