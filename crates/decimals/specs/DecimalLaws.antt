@@ -62,6 +62,7 @@ module _ (s : List ℕ) (x : Float) (e : decimalOf s ≡ accepted x) where
   pub decimal-value : x ≡ valueOf (writtenOf s)
   decimal-value = accepted-means s x e .value
 
+  -- it is a double, and finite
   pub decimal-fits : T (fits binary64 x)
   decimal-fits = rw decimal-value (round-fits binary64 _ _ _)
 

@@ -35,7 +35,7 @@ pub fn read_decimal(s: &[u8]) -> Decimal
     read_parts(is_negative(s), i, f, c < u.len(), is_negative(x), q)
 }
 
-// The same of its digits before the point, those after it and the exponent's. A part: without an exponent there are none of one.
+// The same of its parts: i and f are what stands before the point and after it, q is the exponent without its sign. A part: with no exponent q is empty.
 fn read_parts(negative: bool, i: &[u8], f: &[u8], raised: bool, lowers: bool, q: &[u8]) -> Decimal
     requires { ⌜ (raised ≡ false → now q ≡ []) ⌝ }
     ensures { λ r. ⌜ decimal r ≡ readOf (record {
@@ -64,7 +64,7 @@ fn read_parts(negative: bool, i: &[u8], f: &[u8], raised: bool, lowers: bool, q:
     fit(negative, m, e, f.len())
 }
 
-// Whether they are digits, as many as there must be, whatever the signs.
+// Whether these are digits, as many as there must be.
 fn is_well_formed(i: &[u8], f: &[u8], raised: bool, q: &[u8]) -> bool
     ensures { λ r. ⌜ r ≡ isWellFormed (record {
       negative = false;
