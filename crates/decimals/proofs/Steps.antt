@@ -1,9 +1,9 @@
 -- A sign at the start of a text, and one step of the loop over digits. Assumes nothing.
-use mathlib.Core.Path.{_≡_, refl, sym, ap, _∙_}
-use mathlib.Core.Bool.{Bool, true, false}
+use mathlib.Core.Path.{_≡_, refl, sym, _∙_}
+use mathlib.Core.Bool.{true, false}
 use mathlib.Core.List.{List, [], _∷_}
 use Prim.Native.Nat.{ℕ, suc, _+_, _-_, _*_, _^_, _≤_, _<_}
-use native.Mathlib.Nat.{mul-le-mul-left, one-le-pow}
+use native.Mathlib.Nat.{mul-le-mul-left}
 use native.Mathlib.Numerals.{add-one}
 use native.Mathlib.Omega.{arith}
 use borrow.Author.Tests.{eq-eqb, ne-eqb, ltb-false}
@@ -14,7 +14,7 @@ use Rattle.lists.specs.All.{all}
 use Rattle.lists.specs.AllLaws.{all-means}
 use Rattle.numerals.specs.Whole.{isDigit, spelt}
 use Rattle.decimals.specs.Decimal.{isNegative, unsigned}
-use Rattle.decimals.specs.DigitLaws.{digit-range, room-step}
+use Rattle.decimals.specs.DigitLaws.{ten-pos, digit-range, room-step}
 
 -- ---- a sign
 pub negative-none : (s : List ℕ) → length s ≡ 0 → false ≡ isNegative s
@@ -55,7 +55,7 @@ module _ (i : ℕ) (s : List ℕ) (e : all isDigit s ≡ true) (h : i < length s
 -- there is room for v and n digits after it
 pub room-small : (v n most : ℕ) → (v + 1) * 10 ^ n ≤ most → v < most
 room-small v n most g =
-    let k : (v + 1) * 1 ≤ (v + 1) * 10 ^ n = mul-le-mul-left (v + 1) (one-le-pow n 10 (omega arith)) in
+    let k : (v + 1) * 1 ≤ (v + 1) * 10 ^ n = mul-le-mul-left (v + 1) (ten-pos n) in
     omega arith
 
 module _ (v i most : ℕ) (s : List ℕ) (e : all isDigit s ≡ true) (h : i < length s) where

@@ -1,9 +1,9 @@
--- How large a number digits spell, and what a decimal's digits are. Assumes nothing.
+-- How large a number digits spell, and that a well-formed decimal has digits alone. Assumes nothing.
 use mathlib.Core.Path.{_≡_, refl, sym, ap, _∙_}
 use mathlib.Core.Bool.{Bool, true, false, not, _&&_, _||_, and-eq-true-iff}
 use mathlib.Core.List.{List, [], _∷_}
 use Prim.Native.Nat.{ℕ, suc, _+_, _-_, _*_, _^_, _≤_, _<_}
-use native.Mathlib.Nat.{le-trans, le-of-eq, le-refl, mul-le-mul-right, mul-one, one-mul, mul-assoc, pow-succ', pow-le-pow-right}
+use native.Mathlib.Nat.{le-trans, le-of-eq, le-refl, mul-le-mul-right, mul-one, one-mul, mul-assoc, one-le-pow, pow-succ', pow-le-pow-right}
 use native.Mathlib.Numerals.{add-one}
 use native.Mathlib.Omega.{arith}
 use borrow.Author.Tests.{leb-true}
@@ -13,7 +13,10 @@ use lib.Pow.{pow-add}
 use Rattle.lists.specs.All.{all}
 use Rattle.numerals.specs.Text.{isEmpty}
 use Rattle.numerals.specs.Whole.{isDigit, isDigits, spelt}
-use Rattle.decimals.specs.Decimal.{Written, isWellFormed, counted, digits}
+use Rattle.decimals.specs.Decimal.{Written, isWellFormed, counted}
+
+pub ten-pos : (k : ℕ) → 0 < 10 ^ k
+ten-pos k = one-le-pow k 10 (omega arith)
 
 pub digit-range : (b : ℕ) → isDigit b ≡ true → (48 ≤ b) × (b ≤ 57)
 digit-range b e = let p = and-eq-true-iff (leb 48 b) (leb b 57) .0 e in (leb-true 48 b (p .0), leb-true b 57 (p .1))

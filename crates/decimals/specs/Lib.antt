@@ -1,3 +1,4 @@
 -- Decimals: as they are written, which are refused, and the double that one is.
 pub mod Decimal
 pub mod DigitLaws
+pub mod DecimalLaws

@@ -35,11 +35,17 @@ pub fn read_decimal(s: &[u8]) -> Decimal
     read_parts(is_negative(s), i, f, c < u.len(), is_negative(x), q)
 }
 
-// The same of its parts: the digits before the point and those after it, and the exponent's, if there is one.
+// The same of its parts: i and f are what stands before the point and after it, q is the exponent without its sign. A part: with no exponent q is empty.
 fn read_parts(negative: bool, i: &[u8], f: &[u8], raised: bool, lowers: bool, q: &[u8]) -> Decimal
     requires { ⌜ (raised ≡ false → now q ≡ []) ⌝ }
     ensures { λ r. ⌜ decimal r ≡ readOf (record {
-        negative = negative; whole = now (i .entry); fraction = now (f .entry); raised = raised; lowers = lowers; power = now (q .entry); }) ⌝ }
+      negative = negative;
+      whole = now (i .entry);
+      fraction = now (f .entry);
+      raised = raised;
+      lowers = lowers;
+      power = now (q .entry);
+    }) ⌝ }
 {
     if !is_well_formed(i, f, raised, q) {
         return Decimal::Refused(refusals::NUMERAL);
@@ -58,9 +64,16 @@ fn read_parts(negative: bool, i: &[u8], f: &[u8], raised: bool, lowers: bool, q:
     fit(negative, m, e, f.len())
 }
 
+// Whether these are digits, as many as there must be.
 fn is_well_formed(i: &[u8], f: &[u8], raised: bool, q: &[u8]) -> bool
     ensures { λ r. ⌜ r ≡ isWellFormed (record {
-        negative = false; whole = now (i .entry); fraction = now (f .entry); raised = raised; lowers = false; power = now (q .entry); }) ⌝ }
+      negative = false;
+      whole = now (i .entry);
+      fraction = now (f .entry);
+      raised = raised;
+      lowers = false;
+      power = now (q .entry);
+    }) ⌝ }
 {
     if !numerals::all_digits(i) {
         return false;
@@ -77,7 +90,7 @@ fn is_well_formed(i: &[u8], f: &[u8], raised: bool, q: &[u8]) -> bool
     numerals::is_digits(q)
 }
 
-// m * 10 ^ ups / 10 ^ downs, where the power that is left is from -22 to 22.
+// m * 10 ^ ups / 10 ^ downs with its sign, if the power that is left is from -22 to 22. A part: the digits have been counted.
 fn fit(negative: bool, m: u64, ups: usize, downs: usize) -> Decimal
     requires { ⌜ (m < 10 ^ 15) × (ups ≤ 10 ^ 5) × (downs ≤ 10 ^ 5) ⌝ }
     ensures { λ r. ⌜ decimal r ≡ cond (leb ups (downs + 22) && leb downs (ups + 22)) (accepted (round binary64 negative (m * 10 ^ ups) (10 ^ downs))) (refused DIGITS) ⌝ }
@@ -196,6 +209,7 @@ fn ten(k: usize) -> f64
     TENS[k]
 }
 
+// From 10 ^ 0 to 10 ^ 22.
 const TENS: [f64; 23] = [
     1e0,
     1e1,

@@ -1,5 +1,4 @@
 -- `decimals::power` meets its contract. Assumes nothing.
-use mathlib.Core.Path.{_∙_}
 use native.Mathlib.Omega.{arith}
 use Rattle.decimals.specs.DigitLaws.{room-for, spelt-small}
 use Rattle.decimals.proofs.power.Statement.{statement}

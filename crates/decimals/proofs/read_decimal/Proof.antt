@@ -1,5 +1,5 @@
 -- `decimals::read_decimal` meets its contract. Assumes nothing.
-use mathlib.Core.Path.{_≡_, sym, _∙_}
+use mathlib.Core.Path.{_∙_}
 use borrow.Author.Needs.{needs}
 use Rattle.numerals.specs.Text.{isByte}
 use Rattle.numerals.specs.TextLaws.{cut-le}

@@ -1,6 +1,6 @@
 -- `decimals::ten` meets its contract: each entry of the table is the power of ten of its place, by one test that the checker computes. Assumes nothing.
 use mathlib.Core.Path.{_≡_, refl}
-use mathlib.Core.Bool.{Bool, true, false, not}
+use mathlib.Core.Bool.{Bool, true, false, not, true≢false}
 use mathlib.Core.List.{List, [], _∷_, map}
 use Prim.Native.Nat.{ℕ, _*_, _^_, _<_}
 use lib.Count.{trailingZeros}
@@ -8,7 +8,6 @@ use lib.Dec.{eqb}
 use lib.Ieee.{Float, nan, inf, fin, binary64, up, down, ofBits, ofFields, odd}
 use lib.Ieee.Exact.{HasValue}
 use lib.ListN.{getD}
-use native.Mathlib.Omega.{arith}
 use borrow.Author.Needs.{needs}
 use borrow.Author.Tests.{not-false, eqb-true}
 use Rattle.lists.specs.Below.{someBelow}
@@ -53,9 +52,9 @@ wrong k (fin true m e) = true
 wrong k (fin false m e) = not (eqb (m * up e * 1) (10 ^ k * down e))
 
 right : (k : ℕ) (x : Float) → wrong k x ≡ false → HasValue x false (10 ^ k) 1
-right k nan e = let z : _≡_ {A = ℕ} 0 1 = cc in absurd (omega arith)
-right k (inf s) e = let z : _≡_ {A = ℕ} 0 1 = cc in absurd (omega arith)
-right k (fin true m x) e = let z : _≡_ {A = ℕ} 0 1 = cc in absurd (omega arith)
+right k nan e = absurd (true≢false e)
+right k (inf s) e = absurd (true≢false e)
+right k (fin true m x) e = absurd (true≢false e)
 right k (fin false m x) e = (refl, eqb-true (m * up x * 1) (10 ^ k * down x) (not-false _ e))
 
 rule : (k : ℕ) → k < 23 → wrong k (getD table k nan) ≡ false
