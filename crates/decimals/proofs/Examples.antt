@@ -2,27 +2,22 @@
 use mathlib.Core.Path.{_≡_, refl}
 use mathlib.Core.Bool.{true, false}
 use mathlib.Core.List.{List, [], _∷_, map}
-use Prim.Native.Char.{code}
-use Prim.Native.Nat.{ℕ, _^_}
-use Prim.Native.String as Text
+use Prim.Native.Nat.{_^_}
+use Prim.Native.String.{String}
 use lib.Count.{trailingZeros}
 use lib.IntN.{pos, negsuc}
 use lib.Ieee.{Float, fin, round, size, span, climb, odd, units}
 use Rattle.refusals.specs.Outcome.{Outcome, refused, accepted}
+use Rattle.numerals.specs.Quoted.{bytes}
 use Rattle.numerals.specs.Text.{cutBy}
 use Rattle.numerals.specs.Whole.{isDigits, spelt}
 use Rattle.decimals.specs.Decimal.{isNegative, unsigned, writtenOf, decimalOf}
 
--- the codes of a text's characters, all below 128 here: its bytes
-bytes : Text.String → List ℕ
-bytes Text.[] = []
-bytes (Text._∷_ c cs) = code c ∷ bytes cs
-
 record Line : Type 0 where
-  text : Text.String
+  text : String
   says : Outcome Float
 
-line : Text.String → Outcome Float → Line
+line : String → Outcome Float → Line
 line text says = record { text = text; says = says }
 
 sheet : List Line
@@ -79,5 +74,5 @@ sheet =
     ∷ []
 
 answered : map (λ (l : Line). decimalOf (bytes (l .text))) sheet ≡ map (λ (l : Line). l .says) sheet
-unfolding bytes line sheet decimalOf writtenOf isNegative unsigned cutBy isDigits spelt round size span climb odd units trailingZeros
+unfolding line sheet decimalOf writtenOf isNegative unsigned cutBy isDigits spelt round size span climb odd units trailingZeros
 answered = refl

@@ -1,71 +1,64 @@
 -- Worked values of numbers, lists of them and blanks, computed by the checker. Assumes nothing.
 use mathlib.Core.Path.{_≡_, refl}
-use mathlib.Core.Bool.{Bool, true, false}
-use mathlib.Core.List.{List, [], _∷_, _++_}
+use mathlib.Core.Bool.{true, false}
+use mathlib.Core.List.{List, [], _∷_, map}
 use Prim.Native.Nat.{ℕ}
-use lib.Dec.{eqb}
+use Prim.Native.String.{String}
 use lib.ListN.{replicate}
-use Rattle.lists.specs.All.{all}
 use Rattle.refusals.specs.Outcome.{Outcome, refused, accepted}
-use Rattle.numerals.specs.Text.{isText, isSame, trimStart, trimEnd, trim, split}
+use Rattle.numerals.specs.Quoted.{bytes}
+use Rattle.numerals.specs.Text.{isText, trimStart, trimEnd, trim, split}
 use Rattle.numerals.specs.Read.{readEach}
 use Rattle.numerals.specs.Whole.{isDigits, spelt, unplussed, wholeOf, belowOf, memberOf, memberIn, membersOf}
 
--- the same outcome
-abbrev agree : Outcome ℕ → Outcome ℕ → Bool
-agree (refused j) (refused k) = eqb j k
-agree (refused j) (accepted v) = false
-agree (accepted u) (refused k) = false
-agree (accepted u) (accepted v) = eqb u v
-
 abbrev Line : Type 0
-Line = List ℕ × Outcome ℕ
+Line = String × Outcome ℕ
 
-abbrev agrees : (List ℕ → Outcome ℕ) → Line → Bool
-agrees f l = agree (f (l .0)) (l .1)
+-- each line says what f gives of its text
+abbrev Agrees : (List ℕ → Outcome ℕ) → List Line → Type 0
+Agrees f lines = map (λ l. f (bytes (l .0))) lines ≡ map (λ l. l .1) lines
 
--- ---- whole numbers: `0`, `+5`, `255`, `256`, nothing, `+`, `++1`, `-1`, `1 `, ` 1`, 300 zeros and `255`, `1a`
+-- ---- whole numbers
 wholes : List Line
 wholes =
-    ((48 ∷ []), accepted 0)
-    ∷ ((43 ∷ 53 ∷ []), accepted 5)
-    ∷ ((50 ∷ 53 ∷ 53 ∷ []), accepted 255)
-    ∷ ((50 ∷ 53 ∷ 54 ∷ []), refused 7)
-    ∷ ([], refused 7)
-    ∷ ((43 ∷ []), refused 7)
-    ∷ ((43 ∷ 43 ∷ 49 ∷ []), refused 7)
-    ∷ ((45 ∷ 49 ∷ []), refused 7)
-    ∷ ((49 ∷ 32 ∷ []), refused 7)
-    ∷ ((32 ∷ 49 ∷ []), refused 7)
-    ∷ ((replicate 300 48 ++ 50 ∷ 53 ∷ 53 ∷ []), accepted 255)
-    ∷ ((49 ∷ 97 ∷ []), refused 7)
+    ("0", accepted 0)
+    ∷ ("+5", accepted 5)
+    ∷ ("255", accepted 255)
+    ∷ ("256", refused 7)
+    ∷ ("0000000000000000000000000000000000000255", accepted 255)
+    ∷ ("9999999999999999999999999999999999999999", refused 7)
+    ∷ ("", refused 7)
+    ∷ ("+", refused 7)
+    ∷ ("++1", refused 7)
+    ∷ ("-1", refused 7)
+    ∷ ("1 ", refused 7)
+    ∷ (" 1", refused 7)
+    ∷ ("1a", refused 7)
     ∷ []
 
-whole-numbers : all (agrees wholeOf) wholes ≡ true
+whole-numbers : Agrees wholeOf wholes
 unfolding wholes isDigits spelt unplussed wholeOf
 whole-numbers = refl
 
--- ---- members below 3: `0,2`, ` 0 , +2`, `0,0`, `3`, `0,3,x`, `0,x,3`, `0,`, nothing; trimmed, and then not
-abbrev spaced : List ℕ
-spaced = 32 ∷ 48 ∷ 32 ∷ 44 ∷ 32 ∷ 43 ∷ 50 ∷ []
-
+-- ---- members below 3, trimmed, and then not
 trimmed : List Line
 trimmed =
-    ((48 ∷ 44 ∷ 50 ∷ []), accepted 5)
-    ∷ (spaced, accepted 5)
-    ∷ ((48 ∷ 44 ∷ 48 ∷ []), accepted 1)
-    ∷ ((51 ∷ []), refused 9)
-    ∷ ((48 ∷ 44 ∷ 51 ∷ 44 ∷ 120 ∷ []), refused 9)
-    ∷ ((48 ∷ 44 ∷ 120 ∷ 44 ∷ 51 ∷ []), refused 7)
-    ∷ ((48 ∷ 44 ∷ []), refused 7)
-    ∷ ([], refused 7)
+    ("0,2", accepted 5)
+    ∷ (" 0 , +2", accepted 5)
+    ∷ ("0,0", accepted 1)
+    ∷ ("3", refused 9)
+    ∷ ("0,3,x", refused 9)
+    ∷ ("0,x,3", refused 7)
+    ∷ ("0,", refused 7)
+    ∷ ("0,256", refused 7)
+    ∷ ("", refused 7)
     ∷ []
 
-members-trimmed : all (agrees (membersOf true 3)) trimmed ≡ true
+members-trimmed : Agrees (membersOf true 3) trimmed
 unfolding trimmed isDigits spelt unplussed wholeOf belowOf memberOf memberIn membersOf readEach split trim trimStart trimEnd
 members-trimmed = refl
 
-members-bare : all (agrees (membersOf false 3)) ((spaced, refused 7) ∷ ((48 ∷ 44 ∷ 50 ∷ []), accepted 5) ∷ []) ≡ true
+members-bare : Agrees (membersOf false 3) ((" 0", refused 7) ∷ ("0 ,2", refused 7) ∷ ("0,2", accepted 5) ∷ [])
 unfolding isDigits spelt unplussed wholeOf belowOf memberOf memberIn membersOf readEach split
 members-bare = refl
 
@@ -78,8 +71,8 @@ blanks =
     ∷ ((32 ∷ 9 ∷ []), [])
     ∷ []
 
-blanks-go : all (λ l. isSame (trim (l .0)) (l .1)) blanks ≡ true
-unfolding blanks isSame trim trimStart trimEnd
+blanks-go : map (λ l. trim (l .0)) blanks ≡ map (λ l. l .1) blanks
+unfolding blanks trim trimStart trimEnd
 blanks-go = refl
 
 -- ---- texts: 4,096 bytes of 127, one more, and a byte 128

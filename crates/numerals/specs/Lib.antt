@@ -1,4 +1,5 @@
 -- Texts as lists of bytes, the reading of their parts from the left, and whole numbers.
+pub mod Quoted
 pub mod Text
 pub mod TextLaws
 pub mod SplitLaws

@@ -82,7 +82,12 @@ fn read_mechanism(n: usize, p: Profile, s: &[u8]) -> Parsed
         return read(p);
     }
     let c = numerals::find(t, b':');
-    read_named(n, p, numerals::trimmed(numerals::upto(t, c)), numerals::past(t, c))
+    read_named(
+        n,
+        p,
+        numerals::trimmed(numerals::upto(t, c)),
+        numerals::past(t, c),
+    )
 }
 
 // A mechanism by its name, with what follows its colon.
