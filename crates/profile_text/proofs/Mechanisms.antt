@@ -1,15 +1,12 @@
 -- What the loops over mechanisms, domains and decimals need at each step: the premises are what a need's record holds. Assumes nothing.
 use mathlib.Core.Path.{_≡_, refl, sym, ap, _∙_}
-use mathlib.Core.Bool.{Bool, true, false, not, cond, _||_}
+use mathlib.Core.Bool.{Bool, true, false, not, _||_}
 use mathlib.Core.List.{List, [], _∷_, _++_}
-use mathlib.Core.Logic.{_⊎_, ⊎-elim}
 use Prim.Native.Nat.{ℕ, suc, _+_, _-_, _≤_, _<_}
 use native.Mathlib.Omega.{arith}
-use native.Mathlib.Numerals.{add-one}
 use lib.Count.{trailingZeros}
-use lib.Dec.{eqb}
 use lib.Ieee.{Float, binary64, ofBits, ofFields, round, size, units, odd, span, climb}
-use lib.ListN.{length, drop, take, set, replicate, length-append}
+use lib.ListN.{length, drop, set, replicate, length-append}
 use lib.Seq.{take-all, take-append-le, append-snoc, set-append-seam}
 use borrow.Author.Tests.{eq-eqb, ne-eqb, lt-ltb, le-ltb, not-true, not-false}
 use Rattle.refusals.specs.Numbers.{DOMAINS}
@@ -29,7 +26,7 @@ use Rattle.decimals.specs.declared.Decimal.the-variants as Readings
 use Rattle.profile_text.specs.declared.Reading.the-variants.{Refused, Read}
 use Rattle.profile_text.specs.declared.Decimals.{Decimals}
 use Rattle.profile_text.specs.declared.Parsed.{Parsed}
-use Rattle.profile_text.specs.ProfileText.{filled, withDomain, withWords, withProbs, domainIn, decimalIn, decimalsOf, defaultThreshold, thresholdOf, fitting, probsIn, NONE, namedIn, mechanismIn, parsed, decimals}
+use Rattle.profile_text.specs.ProfileText.{filled, withDomain, withWords, withProbs, domainIn, decimalIn, decimalsOf, thresholdOf, fitting, probsIn, NONE, namedIn, mechanismIn, parsed, decimals}
 
 -- ---- a domain: w is what was answered of its members
 module _ (n : ℕ) (p : Profile) (q : List ℕ) where

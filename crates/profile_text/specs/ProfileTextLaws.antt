@@ -2,13 +2,13 @@
 use mathlib.Core.Path.{_≡_, refl, _∙_}
 use mathlib.Core.Bool.{Bool, true, false, cond, _&&_, _||_}
 use mathlib.Core.List.{List, [], _∷_, _++_}
-use Prim.Native.Nat.{ℕ, zero, suc, _+_, _^_, _≤_, _<_}
+use Prim.Native.Nat.{ℕ, zero, suc, _^_, _≤_, _<_}
 use native.Mathlib.Omega.{arith}
 use native.Mathlib.Numerals.{add-one}
 use lib.Bits.{or-lt}
 use lib.Dec.{ltb}
 use lib.Ieee.{Float}
-use lib.ListN.{length, set, length-set}
+use lib.ListN.{length, length-set}
 use lib.Pow.{pow-lt, pow-pos}
 use lib.Seq.{take-suc-set}
 use borrow.Author.Tests.{ltb-true, lt-ltb, le-leb}

@@ -2,7 +2,7 @@
 ghost use mathlib.Core.Path.{_≡_};
 ghost use mathlib.Core.Bool.{_||_};
 ghost use Prim.Native.Nat.{_<_, _≤_};
-ghost use Rattle.refusals.specs.Outcome.{Outcome, refused, accepted};
+ghost use Rattle.refusals.specs.Outcome.{refused, accepted};
 ghost use Rattle.numerals.specs.Text.{isEmpty, isSame, trim, before, behind};
 ghost use Rattle.decimals.specs.Decimal.{decimal};
 ghost use Rattle.profile_text.specs.ProfileText.{nothing, withDomain, withWords, withRuntime, domainsIn, decimalsOf, thresholdOf, fitting, probsIn, NONE, namedIn, mechanismsOf, profileOf, parsed, decimals};

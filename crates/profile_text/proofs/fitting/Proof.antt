@@ -1,5 +1,5 @@
 -- `profile_text::fitting` meets its contract. Assumes nothing.
-use mathlib.Core.Path.{_≡_, sym, _∙_}
+use mathlib.Core.Path.{sym, _∙_}
 use borrow.Author.Needs.{needs}
 use Rattle.profile_text.specs.ProfileText.{fitting}
 use Rattle.profile_text.proofs.fitting.Statement.{statement}

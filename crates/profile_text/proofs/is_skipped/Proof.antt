@@ -1,5 +1,5 @@
 -- `profile_text::is_skipped` meets its contract. Assumes nothing.
-use mathlib.Core.Path.{_≡_, refl, sym, _∙_}
+use mathlib.Core.Path.{_∙_}
 use borrow.Author.Needs.{needs}
 use borrow.Author.Tests.{eq-eqb, ne-eqb}
 use Rattle.profile_text.proofs.is_skipped.Statement.{statement}

@@ -1,14 +1,11 @@
 -- `profile_text::read_decimals` meets its contract. Assumes nothing.
-use mathlib.Core.Path.{_≡_, refl, ap, _∙_}
+use mathlib.Core.Path.{refl, ap}
 use mathlib.Core.List.{[]}
 use mathlib.Core.Logic.{⊎-elim}
 use Prim.Native.Nat.{_≤_, _-_}
-use native.Mathlib.Omega.{arith}
 use borrow.Author.Needs.{needs}
 use lib.Ieee.{ofBits}
-use lib.ListN.{length, drop}
-use Rattle.numerals.specs.Text.{split}
-use Rattle.numerals.specs.Read.{readEach}
+use lib.ListN.{length}
 use Rattle.numerals.specs.ReadLaws.{read-refused}
 use Rattle.profile_text.specs.ProfileText.{decimalIn, decimalsOf, decimals}
 use Rattle.profile_text.proofs.Mechanisms.{Collected, decimal-refused, held-next, held-past, collected-last, collected-more}

@@ -1,9 +1,8 @@
 -- `profile_text::read_mechanism` meets its contract. Assumes nothing.
-use mathlib.Core.Path.{_≡_, refl, sym, ap, _∙_}
+use mathlib.Core.Path.{_∙_}
 use borrow.Author.Needs.{needs}
 use Rattle.numerals.specs.Text.{isByte}
 use Rattle.numerals.specs.TextLaws.{cut-le}
-use Rattle.profile_text.specs.ProfileText.{namedIn, parsed}
 use Rattle.profile_text.proofs.read_mechanism.Statement.{statement}
 use Rattle.profile_text.proofs.read_mechanism.Tie as tie
 

@@ -1,7 +1,7 @@
 -- `profile_text::read_named` meets its contract. Assumes nothing.
-use mathlib.Core.Path.{_≡_, refl, sym, ap, _∙_}
+use mathlib.Core.Path.{sym, _∙_}
 use borrow.Author.Needs.{needs}
-use Rattle.profile_text.specs.ProfileText.{namedIn, parsed}
+use Rattle.profile_text.specs.ProfileText.{namedIn}
 use Rattle.profile_text.proofs.read_named.Statement.{statement}
 use Rattle.profile_text.proofs.read_named.Tie as tie
 

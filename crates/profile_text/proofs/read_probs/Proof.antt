@@ -1,5 +1,5 @@
 -- `profile_text::read_probs` meets its contract. Assumes nothing.
-use mathlib.Core.Path.{_≡_, refl, sym, ap, _∙_}
+use mathlib.Core.Path.{ap, _∙_}
 use borrow.Author.Needs.{needs}
 use Rattle.numerals.specs.Text.{isByte}
 use Rattle.numerals.specs.TextLaws.{cut-le}

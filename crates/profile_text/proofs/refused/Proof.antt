@@ -1,5 +1,4 @@
 -- `profile_text::refused` meets its contract. Assumes nothing.
-use mathlib.Core.Path.{_≡_, ap}
 use borrow.Author.Needs.{needs}
 use Rattle.profile_text.specs.ProfileText.{nothing}
 use Rattle.profile_text.proofs.refused.Statement.{statement}

@@ -1,6 +1,5 @@
 -- `profile_text::with_domain` meets its contract. Assumes nothing.
 use mathlib.Core.Path.{refl}
-use native.Mathlib.Omega.{arith}
 use borrow.Author.Needs.{needs}
 use Rattle.profile_text.specs.ProfileText.{withDomain}
 use Rattle.profile_text.proofs.with_domain.Statement.{statement}
