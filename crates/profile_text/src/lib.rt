@@ -90,7 +90,12 @@ fn read_mechanism(n: usize, p: Profile, t: &[u8]) -> Parsed
     ensures { λ r. ⌜ r ≡ parsed (namedIn n p (trim (before 58 (now (t .entry)))) (behind 58 (now (t .entry)))) ⌝ }
 {
     let c = numerals::find(t, b':');
-    read_named(n, p, numerals::trimmed(numerals::upto(t, c)), numerals::past(t, c))
+    read_named(
+        n,
+        p,
+        numerals::trimmed(numerals::upto(t, c)),
+        numerals::past(t, c),
+    )
 }
 
 // A mechanism by its name, with what follows its colon.
