@@ -3,6 +3,8 @@ use mathlib.Core.Path.{_≡_, refl}
 use mathlib.Core.Bool.{Bool, true, false}
 use mathlib.Core.List.{List, [], _∷_, _++_, map}
 use Prim.Native.Nat.{ℕ, zero, suc}
+use Prim.Native.Char.{code}
+use Prim.Native.String.{String, [] as empty, _∷_ as _then_}
 use lib.Count.{trailingZeros}
 use lib.IntN.{pos, negsuc}
 use lib.Ieee.{Float, fin, isNan, lt, le, round, size, units, odd, span, climb}
@@ -16,7 +18,7 @@ use Rattle.numerals.specs.Text.{isText, isSame, trimStart, trimEnd, trim, cutBy
 use Rattle.numerals.specs.Read.{readEach}
 use Rattle.numerals.specs.Whole.{isDigits, spelt, unplussed, wholeOf, belowOf, memberOf, memberIn, membersOf}
 use Rattle.decimals.specs.Decimal.{isNegative, unsigned, writtenOf, decimalOf}
-use Rattle.profile_text.specs.ProfileText.{filled, nothing, withDomain, withWords, withRuntime, domainIn, domainsIn, decimalIn, decimalsOf, thresholdOf, fitting, probsIn, DOMAINS_NAME, namedIn, mechanismIn, mechanismsOf, profileOf}
+use Rattle.profile_text.specs.ProfileText.{filled, nothing, withDomain, withWords, withRuntime, domainIn, domainsIn, decimalIn, decimalsOf, thresholdOf, fitting, probsIn, namedIn, mechanismIn, mechanismsOf, profileOf}
 
 abbrev minusZero : Float
 minusZero = fin true 0 (pos 0)
@@ -62,10 +64,19 @@ likely probs threshold = profile false [] probs threshold
 
 -- ---- the table
 
+-- the bytes of a text, which are its characters' numbers where those are below 128
+bytes : String → List ℕ
+bytes empty = []
+bytes (c then t) = code c ∷ bytes t
+
+times : ℕ → List ℕ → List ℕ
+times zero part = []
+times (suc k) part = part ++ times k part
+
 -- a start, k times a part, and an end
-joined : List ℕ → ℕ → List ℕ → List ℕ → List ℕ
-joined start zero part end = start ++ end
-joined start (suc k) part end = joined (start ++ part) k part end
+repeated : String → ℕ → String → String → List ℕ
+unfolding bytes times
+repeated start k part end = bytes start ++ times k (bytes part) ++ bytes end
 
 record Line : Type 0 where
   n : ℕ
@@ -76,135 +87,80 @@ line : ℕ → List ℕ → Outcome Profile → Line
 line n text says = record { n = n; text = text; says = says }
 
 sheet : List Line
-unfolding line profile bare grouped likely joined
+unfolding line profile bare grouped likely bytes times repeated
 sheet =
     -- skipped: nothing, `none`, empty parts; what follows the colon of `runtime` is not read
-    -- nothing
-    line 3 [] (accepted (bare false))
-    -- ` none ;; runtime:xyz`
-    ∷ line 3 (32 ∷ 110 ∷ 111 ∷ 110 ∷ 101 ∷ 32 ∷ 59 ∷ 59 ∷ 32 ∷ 114 ∷ 117 ∷ 110 ∷ 116 ∷ 105 ∷ 109 ∷ 101 ∷ 58 ∷ 120 ∷ 121 ∷ 122 ∷ []) (accepted (bare true))
-    -- `runtime`
-    ∷ line 3 (114 ∷ 117 ∷ 110 ∷ 116 ∷ 105 ∷ 109 ∷ 101 ∷ []) (accepted (bare true))
-    -- ` runtime : ;`
-    ∷ line 3 (32 ∷ 114 ∷ 117 ∷ 110 ∷ 116 ∷ 105 ∷ 109 ∷ 101 ∷ 32 ∷ 58 ∷ 32 ∷ 59 ∷ []) (accepted (bare true))
+    line 3 (bytes "") (accepted (bare false))
+    ∷ line 3 (bytes " none ;; runtime:xyz") (accepted (bare true))
+    ∷ line 3 (bytes "runtime") (accepted (bare true))
+    ∷ line 3 (bytes " runtime : ;") (accepted (bare true))
     -- domains: sets, members with blanks and a +, and several mechanisms
-    -- `domains:0,1/2`
-    ∷ line 3 (100 ∷ 111 ∷ 109 ∷ 97 ∷ 105 ∷ 110 ∷ 115 ∷ 58 ∷ 48 ∷ 44 ∷ 49 ∷ 47 ∷ 50 ∷ []) (accepted (grouped (3 ∷ 4 ∷ [])))
-    -- `domains: 0 , +1 `
-    ∷ line 3 (100 ∷ 111 ∷ 109 ∷ 97 ∷ 105 ∷ 110 ∷ 115 ∷ 58 ∷ 32 ∷ 48 ∷ 32 ∷ 44 ∷ 32 ∷ 43 ∷ 49 ∷ 32 ∷ []) (accepted (grouped (3 ∷ [])))
-    -- ` domains :0;runtime;domains:1/0,2`
-    ∷ line 3 (32 ∷ 100 ∷ 111 ∷ 109 ∷ 97 ∷ 105 ∷ 110 ∷ 115 ∷ 32 ∷ 58 ∷ 48 ∷ 59 ∷ 114 ∷ 117 ∷ 110 ∷ 116 ∷ 105 ∷ 109 ∷ 101 ∷ 59 ∷ 100 ∷ 111 ∷ 109 ∷ 97 ∷ 105 ∷ 110 ∷ 115 ∷ 58 ∷ 49 ∷ 47 ∷ 48 ∷ 44 ∷ 50 ∷ []) (accepted (profile true (1 ∷ 2 ∷ 5 ∷ []) [] plusZero))
-    -- `domains:15`
-    ∷ line 16 (100 ∷ 111 ∷ 109 ∷ 97 ∷ 105 ∷ 110 ∷ 115 ∷ 58 ∷ 49 ∷ 53 ∷ []) (accepted (grouped (32768 ∷ [])))
+    ∷ line 3 (bytes "domains:0,1/2") (accepted (grouped (3 ∷ 4 ∷ [])))
+    ∷ line 3 (bytes "domains: 0 , +1 ") (accepted (grouped (3 ∷ [])))
+    ∷ line 3 (bytes " domains :0;runtime;domains:1/0,2") (accepted (profile true (1 ∷ 2 ∷ 5 ∷ []) [] plusZero))
+    ∷ line 16 (bytes "domains:15") (accepted (grouped (0x8000 ∷ [])))
     -- 9, and 7
-    -- `domains:3`
-    ∷ line 3 (100 ∷ 111 ∷ 109 ∷ 97 ∷ 105 ∷ 110 ∷ 115 ∷ 58 ∷ 51 ∷ []) (refused 9)
-    -- `domains:`
-    ∷ line 3 (100 ∷ 111 ∷ 109 ∷ 97 ∷ 105 ∷ 110 ∷ 115 ∷ 58 ∷ []) (refused 7)
-    -- `domains`
-    ∷ line 3 (100 ∷ 111 ∷ 109 ∷ 97 ∷ 105 ∷ 110 ∷ 115 ∷ []) (refused 7)
-    -- `domains:0/x`
-    ∷ line 3 (100 ∷ 111 ∷ 109 ∷ 97 ∷ 105 ∷ 110 ∷ 115 ∷ 58 ∷ 48 ∷ 47 ∷ 120 ∷ []) (refused 7)
-    -- `domains:0/`
-    ∷ line 3 (100 ∷ 111 ∷ 109 ∷ 97 ∷ 105 ∷ 110 ∷ 115 ∷ 58 ∷ 48 ∷ 47 ∷ []) (refused 7)
+    ∷ line 3 (bytes "domains:3") (refused 9)
+    ∷ line 3 (bytes "domains:") (refused 7)
+    ∷ line 3 (bytes "domains") (refused 7)
+    ∷ line 3 (bytes "domains:0/x") (refused 7)
+    ∷ line 3 (bytes "domains:0/") (refused 7)
     -- probabilities, with a threshold and without
-    -- `probs:0.5,0.5,0.25@0.25`
-    ∷ line 3 (112 ∷ 114 ∷ 111 ∷ 98 ∷ 115 ∷ 58 ∷ 48 ∷ 46 ∷ 53 ∷ 44 ∷ 48 ∷ 46 ∷ 53 ∷ 44 ∷ 48 ∷ 46 ∷ 50 ∷ 53 ∷ 64 ∷ 48 ∷ 46 ∷ 50 ∷ 53 ∷ []) (accepted (likely (half ∷ half ∷ quarter ∷ []) quarter))
-    -- `probs:0.5,0.5,0.25`
-    ∷ line 3 (112 ∷ 114 ∷ 111 ∷ 98 ∷ 115 ∷ 58 ∷ 48 ∷ 46 ∷ 53 ∷ 44 ∷ 48 ∷ 46 ∷ 53 ∷ 44 ∷ 48 ∷ 46 ∷ 50 ∷ 53 ∷ []) (accepted (likely (half ∷ half ∷ quarter ∷ []) thousandth))
-    -- `probs:0.5,0.5,0.25@ `
-    ∷ line 3 (112 ∷ 114 ∷ 111 ∷ 98 ∷ 115 ∷ 58 ∷ 48 ∷ 46 ∷ 53 ∷ 44 ∷ 48 ∷ 46 ∷ 53 ∷ 44 ∷ 48 ∷ 46 ∷ 50 ∷ 53 ∷ 64 ∷ 32 ∷ []) (accepted (likely (half ∷ half ∷ quarter ∷ []) thousandth))
-    -- `probs: .5 , 1. ,+0.25 @ 1 `
-    ∷ line 3 (112 ∷ 114 ∷ 111 ∷ 98 ∷ 115 ∷ 58 ∷ 32 ∷ 46 ∷ 53 ∷ 32 ∷ 44 ∷ 32 ∷ 49 ∷ 46 ∷ 32 ∷ 44 ∷ 43 ∷ 48 ∷ 46 ∷ 50 ∷ 53 ∷ 32 ∷ 64 ∷ 32 ∷ 49 ∷ 32 ∷ []) (accepted (likely (half ∷ one ∷ quarter ∷ []) one))
-    -- `probs:-0,0,0`
-    ∷ line 3 (112 ∷ 114 ∷ 111 ∷ 98 ∷ 115 ∷ 58 ∷ 45 ∷ 48 ∷ 44 ∷ 48 ∷ 44 ∷ 48 ∷ []) (accepted (likely (minusZero ∷ plusZero ∷ plusZero ∷ []) thousandth))
+    ∷ line 3 (bytes "probs:0.5,0.5,0.25@0.25") (accepted (likely (half ∷ half ∷ quarter ∷ []) quarter))
+    ∷ line 3 (bytes "probs:0.5,0.5,0.25") (accepted (likely (half ∷ half ∷ quarter ∷ []) thousandth))
+    ∷ line 3 (bytes "probs:0.5,0.5,0.25@ ") (accepted (likely (half ∷ half ∷ quarter ∷ []) thousandth))
+    ∷ line 3 (bytes "probs: .5 , 1. ,+0.25 @ 1 ") (accepted (likely (half ∷ one ∷ quarter ∷ []) one))
+    ∷ line 3 (bytes "probs:-0,0,0") (accepted (likely (minusZero ∷ plusZero ∷ plusZero ∷ []) thousandth))
     -- 11 after all have been read: 7 and 8 come first
-    -- `probs:1,1`
-    ∷ line 3 (112 ∷ 114 ∷ 111 ∷ 98 ∷ 115 ∷ 58 ∷ 49 ∷ 44 ∷ 49 ∷ []) (refused 11)
-    -- `probs:1,1@x`
-    ∷ line 3 (112 ∷ 114 ∷ 111 ∷ 98 ∷ 115 ∷ 58 ∷ 49 ∷ 44 ∷ 49 ∷ 64 ∷ 120 ∷ []) (refused 7)
-    -- `probs:2,x,1`
-    ∷ line 3 (112 ∷ 114 ∷ 111 ∷ 98 ∷ 115 ∷ 58 ∷ 50 ∷ 44 ∷ 120 ∷ 44 ∷ 49 ∷ []) (refused 7)
-    -- `probs:1,1,1@0`
-    ∷ line 3 (112 ∷ 114 ∷ 111 ∷ 98 ∷ 115 ∷ 58 ∷ 49 ∷ 44 ∷ 49 ∷ 44 ∷ 49 ∷ 64 ∷ 48 ∷ []) (refused 11)
-    -- `probs:1,1,1@1e23`
-    ∷ line 3 (112 ∷ 114 ∷ 111 ∷ 98 ∷ 115 ∷ 58 ∷ 49 ∷ 44 ∷ 49 ∷ 44 ∷ 49 ∷ 64 ∷ 49 ∷ 101 ∷ 50 ∷ 51 ∷ []) (refused 8)
-    -- `probs:1,1,1,1`
-    ∷ line 3 (112 ∷ 114 ∷ 111 ∷ 98 ∷ 115 ∷ 58 ∷ 49 ∷ 44 ∷ 49 ∷ 44 ∷ 49 ∷ 44 ∷ 49 ∷ []) (refused 11)
-    -- `probs:x`
-    ∷ line 3 (112 ∷ 114 ∷ 111 ∷ 98 ∷ 115 ∷ 58 ∷ 120 ∷ []) (refused 7)
-    -- `probs:`
-    ∷ line 3 (112 ∷ 114 ∷ 111 ∷ 98 ∷ 115 ∷ 58 ∷ []) (refused 7)
-    -- `probs:1,1,2`
-    ∷ line 3 (112 ∷ 114 ∷ 111 ∷ 98 ∷ 115 ∷ 58 ∷ 49 ∷ 44 ∷ 49 ∷ 44 ∷ 50 ∷ []) (refused 11)
-    -- `probs:1,1,1@2`
-    ∷ line 3 (112 ∷ 114 ∷ 111 ∷ 98 ∷ 115 ∷ 58 ∷ 49 ∷ 44 ∷ 49 ∷ 44 ∷ 49 ∷ 64 ∷ 50 ∷ []) (refused 11)
-    -- `probs:1,1,1@1@1`
-    ∷ line 3 (112 ∷ 114 ∷ 111 ∷ 98 ∷ 115 ∷ 58 ∷ 49 ∷ 44 ∷ 49 ∷ 44 ∷ 49 ∷ 64 ∷ 49 ∷ 64 ∷ 49 ∷ []) (refused 7)
+    ∷ line 3 (bytes "probs:1,1") (refused 11)
+    ∷ line 3 (bytes "probs:1,1@x") (refused 7)
+    ∷ line 3 (bytes "probs:2,x,1") (refused 7)
+    ∷ line 3 (bytes "probs:1,1,1@0") (refused 11)
+    ∷ line 3 (bytes "probs:1,1,1@1e23") (refused 8)
+    ∷ line 3 (bytes "probs:1,1,1,1") (refused 11)
+    ∷ line 3 (bytes "probs:x") (refused 7)
+    ∷ line 3 (bytes "probs:") (refused 7)
+    ∷ line 3 (bytes "probs:1,1,2") (refused 11)
+    ∷ line 3 (bytes "probs:1,1,1@2") (refused 11)
+    ∷ line 3 (bytes "probs:1,1,1@1@1") (refused 7)
     -- 17 decimals: the last of them is read too
-    -- `probs:1,1,1,1,1,1,1,1,1,1,1,1,1,1,1,1,1`
-    ∷ line 3 (112 ∷ 114 ∷ 111 ∷ 98 ∷ 115 ∷ 58 ∷ 49 ∷ 44 ∷ 49 ∷ 44 ∷ 49 ∷ 44 ∷ 49 ∷ 44 ∷ 49 ∷ 44 ∷ 49 ∷ 44 ∷ 49 ∷ 44 ∷ 49 ∷ 44 ∷ 49 ∷ 44 ∷ 49 ∷ 44 ∷ 49 ∷ 44 ∷ 49 ∷ 44 ∷ 49 ∷ 44 ∷ 49 ∷ 44 ∷ 49 ∷ 44 ∷ 49 ∷ 44 ∷ 49 ∷ []) (refused 11)
-    -- `probs:1,1,1,1,1,1,1,1,1,1,1,1,1,1,1,1,x`
-    ∷ line 3 (112 ∷ 114 ∷ 111 ∷ 98 ∷ 115 ∷ 58 ∷ 49 ∷ 44 ∷ 49 ∷ 44 ∷ 49 ∷ 44 ∷ 49 ∷ 44 ∷ 49 ∷ 44 ∷ 49 ∷ 44 ∷ 49 ∷ 44 ∷ 49 ∷ 44 ∷ 49 ∷ 44 ∷ 49 ∷ 44 ∷ 49 ∷ 44 ∷ 49 ∷ 44 ∷ 49 ∷ 44 ∷ 49 ∷ 44 ∷ 49 ∷ 44 ∷ 49 ∷ 44 ∷ 120 ∷ []) (refused 7)
-    -- `probs:1,1,1,1,1,1,1,1,1,1,1,1,1,1,1,0.5`
-    ∷ line 16 (112 ∷ 114 ∷ 111 ∷ 98 ∷ 115 ∷ 58 ∷ 49 ∷ 44 ∷ 49 ∷ 44 ∷ 49 ∷ 44 ∷ 49 ∷ 44 ∷ 49 ∷ 44 ∷ 49 ∷ 44 ∷ 49 ∷ 44 ∷ 49 ∷ 44 ∷ 49 ∷ 44 ∷ 49 ∷ 44 ∷ 49 ∷ 44 ∷ 49 ∷ 44 ∷ 49 ∷ 44 ∷ 49 ∷ 44 ∷ 49 ∷ 44 ∷ 48 ∷ 46 ∷ 53 ∷ []) (accepted (likely (one ∷ one ∷ one ∷ one ∷ one ∷ one ∷ one ∷ one ∷ one ∷ one ∷ one ∷ one ∷ one ∷ one ∷ one ∷ half ∷ []) thousandth))
+    ∷ line 3 (bytes "probs:1,1,1,1,1,1,1,1,1,1,1,1,1,1,1,1,1") (refused 11)
+    ∷ line 3 (bytes "probs:1,1,1,1,1,1,1,1,1,1,1,1,1,1,1,1,x") (refused 7)
+    ∷ line 16 (bytes "probs:1,1,1,1,1,1,1,1,1,1,1,1,1,1,1,0.5") (accepted (likely (replicate 15 one ++ half ∷ []) thousandth))
     -- the last ones count, and each is tested
-    -- `probs:1,1,1;probs:0,0,0`
-    ∷ line 3 (112 ∷ 114 ∷ 111 ∷ 98 ∷ 115 ∷ 58 ∷ 49 ∷ 44 ∷ 49 ∷ 44 ∷ 49 ∷ 59 ∷ 112 ∷ 114 ∷ 111 ∷ 98 ∷ 115 ∷ 58 ∷ 48 ∷ 44 ∷ 48 ∷ 44 ∷ 48 ∷ []) (accepted (likely (plusZero ∷ plusZero ∷ plusZero ∷ []) thousandth))
-    -- `probs:2,2,2;probs:0,0,0`
-    ∷ line 3 (112 ∷ 114 ∷ 111 ∷ 98 ∷ 115 ∷ 58 ∷ 50 ∷ 44 ∷ 50 ∷ 44 ∷ 50 ∷ 59 ∷ 112 ∷ 114 ∷ 111 ∷ 98 ∷ 115 ∷ 58 ∷ 48 ∷ 44 ∷ 48 ∷ 44 ∷ 48 ∷ []) (refused 11)
-    -- `probs:1,1,1@1;domains:0;runtime`
-    ∷ line 3 (112 ∷ 114 ∷ 111 ∷ 98 ∷ 115 ∷ 58 ∷ 49 ∷ 44 ∷ 49 ∷ 44 ∷ 49 ∷ 64 ∷ 49 ∷ 59 ∷ 100 ∷ 111 ∷ 109 ∷ 97 ∷ 105 ∷ 110 ∷ 115 ∷ 58 ∷ 48 ∷ 59 ∷ 114 ∷ 117 ∷ 110 ∷ 116 ∷ 105 ∷ 109 ∷ 101 ∷ []) (accepted (profile true (1 ∷ []) (one ∷ one ∷ one ∷ []) one))
+    ∷ line 3 (bytes "probs:1,1,1;probs:0,0,0") (accepted (likely (plusZero ∷ plusZero ∷ plusZero ∷ []) thousandth))
+    ∷ line 3 (bytes "probs:2,2,2;probs:0,0,0") (refused 11)
+    ∷ line 3 (bytes "probs:1,1,1@1;domains:0;runtime") (accepted (profile true (1 ∷ []) (one ∷ one ∷ one ∷ []) one))
     -- the digit rule
-    -- `probs:1e22`
-    ∷ line 1 (112 ∷ 114 ∷ 111 ∷ 98 ∷ 115 ∷ 58 ∷ 49 ∷ 101 ∷ 50 ∷ 50 ∷ []) (refused 11)
-    -- `probs:1e23`
-    ∷ line 1 (112 ∷ 114 ∷ 111 ∷ 98 ∷ 115 ∷ 58 ∷ 49 ∷ 101 ∷ 50 ∷ 51 ∷ []) (refused 8)
-    -- `probs:0.12345678901234`
-    ∷ line 1 (112 ∷ 114 ∷ 111 ∷ 98 ∷ 115 ∷ 58 ∷ 48 ∷ 46 ∷ 49 ∷ 50 ∷ 51 ∷ 52 ∷ 53 ∷ 54 ∷ 55 ∷ 56 ∷ 57 ∷ 48 ∷ 49 ∷ 50 ∷ 51 ∷ 52 ∷ []) (accepted (likely ((fin false 4447999591938659 (negsuc 54)) ∷ []) thousandth))
-    -- `probs:0.123456789012345`
-    ∷ line 1 (112 ∷ 114 ∷ 111 ∷ 98 ∷ 115 ∷ 58 ∷ 48 ∷ 46 ∷ 49 ∷ 50 ∷ 51 ∷ 52 ∷ 53 ∷ 54 ∷ 55 ∷ 56 ∷ 57 ∷ 48 ∷ 49 ∷ 50 ∷ 51 ∷ 52 ∷ 53 ∷ []) (refused 8)
+    ∷ line 1 (bytes "probs:1e22") (refused 11)
+    ∷ line 1 (bytes "probs:1e23") (refused 8)
+    ∷ line 1 (bytes "probs:0.12345678901234") (accepted (likely (fin false 4447999591938659 (negsuc 54) ∷ []) thousandth))
+    ∷ line 1 (bytes "probs:0.123456789012345") (refused 8)
     -- 10: an unknown mechanism
-    -- `x`
-    ∷ line 3 (120 ∷ []) (refused 10)
-    -- `none:`
-    ∷ line 3 (110 ∷ 111 ∷ 110 ∷ 101 ∷ 58 ∷ []) (refused 10)
-    -- `Domains:0`
-    ∷ line 3 (68 ∷ 111 ∷ 109 ∷ 97 ∷ 105 ∷ 110 ∷ 115 ∷ 58 ∷ 48 ∷ []) (refused 10)
-    -- `:`
-    ∷ line 3 (58 ∷ []) (refused 10)
+    ∷ line 3 (bytes "x") (refused 10)
+    ∷ line 3 (bytes "none:") (refused 10)
+    ∷ line 3 (bytes "Domains:0") (refused 10)
+    ∷ line 3 (bytes ":") (refused 10)
     -- the first fault from the left
-    -- `x;domains:9`
-    ∷ line 3 (120 ∷ 59 ∷ 100 ∷ 111 ∷ 109 ∷ 97 ∷ 105 ∷ 110 ∷ 115 ∷ 58 ∷ 57 ∷ []) (refused 10)
-    -- `domains:9;x`
-    ∷ line 3 (100 ∷ 111 ∷ 109 ∷ 97 ∷ 105 ∷ 110 ∷ 115 ∷ 58 ∷ 57 ∷ 59 ∷ 120 ∷ []) (refused 9)
-    -- `probs:1,1;domains:x`
-    ∷ line 3 (112 ∷ 114 ∷ 111 ∷ 98 ∷ 115 ∷ 58 ∷ 49 ∷ 44 ∷ 49 ∷ 59 ∷ 100 ∷ 111 ∷ 109 ∷ 97 ∷ 105 ∷ 110 ∷ 115 ∷ 58 ∷ 120 ∷ []) (refused 11)
+    ∷ line 3 (bytes "x;domains:9") (refused 10)
+    ∷ line 3 (bytes "domains:9;x") (refused 9)
+    ∷ line 3 (bytes "probs:1,1;domains:x") (refused 11)
     -- 64 domains, a 65th and its fault, a 65th in another mechanism
-    -- `domains:` and 64 times `0`, between `/`
-    ∷ line 3 (joined (DOMAINS_NAME ++ 58 ∷ []) 63 (48 ∷ 47 ∷ []) (48 ∷ [])) (accepted (grouped (replicate 64 1)))
-    -- and then `/0`
-    ∷ line 3 (joined (DOMAINS_NAME ++ 58 ∷ []) 64 (48 ∷ 47 ∷ []) (48 ∷ [])) (refused 12)
-    -- and then `/x`
-    ∷ line 3 (joined (DOMAINS_NAME ++ 58 ∷ []) 64 (48 ∷ 47 ∷ []) (120 ∷ [])) (refused 12)
-    -- and then `;domains:x`
-    ∷ line 3 (joined (DOMAINS_NAME ++ 58 ∷ []) 63 (48 ∷ 47 ∷ []) (48 ∷ 59 ∷ DOMAINS_NAME ++ 58 ∷ 120 ∷ [])) (refused 12)
-    -- 1 before all, and 6 before a fault further left
-    -- nothing
-    ∷ line 0 [] (refused 1)
-    -- nothing
-    ∷ line 17 [] (refused 1)
-    -- a byte 200
+    ∷ line 3 (repeated "domains:" 63 "0/" "0") (accepted (grouped (replicate 64 1)))
+    ∷ line 3 (repeated "domains:" 64 "0/" "0") (refused 12)
+    ∷ line 3 (repeated "domains:" 64 "0/" "x") (refused 12)
+    ∷ line 3 (repeated "domains:" 63 "0/" "0;domains:x") (refused 12)
+    -- 1 before all, and 6 before a fault further left; the most bytes, and one more
+    ∷ line 0 (bytes "") (refused 1)
+    ∷ line 17 (bytes "") (refused 1)
     ∷ line 17 (200 ∷ []) (refused 1)
-    -- `x;` and a byte 200
-    ∷ line 3 (120 ∷ 59 ∷ 200 ∷ []) (refused 6)
-    -- 4,096 bytes, and one more
+    ∷ line 3 (bytes "x;" ++ 200 ∷ []) (refused 6)
     ∷ line 3 (replicate 4096 59) (accepted (bare false))
     ∷ line 3 (replicate 4097 59) (refused 6)
     ∷ []
 
 answered : map (λ (l : Line). profileOf (l .n) (l .text)) sheet ≡ map (λ (l : Line). l .says) sheet
-unfolding line profile bare grouped likely joined sheet profileOf mechanismsOf mechanismIn namedIn domainsIn domainIn probsIn decimalsOf decimalIn thresholdOf fitting nothing
+unfolding line profile bare grouped likely bytes times repeated sheet profileOf mechanismsOf mechanismIn namedIn domainsIn domainIn probsIn decimalsOf decimalIn thresholdOf fitting nothing
     withDomain withWords withRuntime readEach split trim trimStart trimEnd cutBy isText isSame isDigits spelt unplussed wholeOf belowOf memberOf memberIn membersOf
     decimalOf writtenOf isNegative unsigned isPopulation probsFit isThreshold isProbability isNan lt le round size units odd span climb trailingZeros
 answered = refl
