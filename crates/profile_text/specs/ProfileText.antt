@@ -16,7 +16,6 @@ use Rattle.numerals.specs.Text.{isText, isEmpty, isSame, trim, before, behind, 
 use Rattle.numerals.specs.Read.{readEach}
 use Rattle.numerals.specs.Whole.{membersOf}
 use Rattle.decimals.specs.Decimal.{decimalOf}
-use Rattle.profile_text.specs.declared.Reading.{Reading}
 use Rattle.profile_text.specs.declared.Reading.the-variants.{Refused, Read}
 use Rattle.profile_text.specs.declared.Decimals.{Decimals}
 use Rattle.profile_text.specs.declared.Parsed.{Parsed}

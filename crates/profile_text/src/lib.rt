@@ -1,9 +1,11 @@
 // The text of a reliability profile (ReliabilityProfile::parse).
 ghost use mathlib.Core.Path.{_≡_};
+ghost use mathlib.Core.Bool.{_||_};
 ghost use Prim.Native.Nat.{_<_, _≤_};
-ghost use Rattle.refusals.specs.Outcome.{Outcome, refused, accepted};
+ghost use Rattle.refusals.specs.Outcome.{refused, accepted};
+ghost use Rattle.numerals.specs.Text.{isEmpty, isSame, trim, before, behind};
 ghost use Rattle.decimals.specs.Decimal.{decimal};
-ghost use Rattle.profile_text.specs.ProfileText.{nothing, withDomain, withWords, withRuntime, domainsIn, decimalsOf, thresholdOf, fitting, probsIn, namedIn, mechanismIn, mechanismsOf, profileOf, parsed, decimals};
+ghost use Rattle.profile_text.specs.ProfileText.{nothing, withDomain, withWords, withRuntime, domainsIn, decimalsOf, thresholdOf, fitting, probsIn, NONE, namedIn, mechanismsOf, profileOf, parsed, decimals};
 use decimals::Decimal;
 use numerals::Members;
 use profiles::Profile;
@@ -42,7 +44,7 @@ pub fn parse_profile(n: usize, s: &[u8]) -> Parsed
     read_mechanisms(n, s)
 }
 
-// The mechanisms between `;`, from the left.
+// The mechanisms between `;`, from the left: empty ones and `none` are skipped.
 fn read_mechanisms(n: usize, s: &[u8]) -> Parsed
     requires { ⌜ n ≤ 16 ⌝ }
     ensures { λ r. ⌜ r ≡ parsed (mechanismsOf n (now (s .entry))) ⌝ }
@@ -51,14 +53,17 @@ fn read_mechanisms(n: usize, s: &[u8]) -> Parsed
     let mut at: usize = 0;
     loop {
         let q = numerals::part(s, at, b';');
-        let r = read_mechanism(n, p, q);
-        let a = r.answer;
-        match a {
-            Reading::Refused(no) => {
-                return refused(no);
-            }
-            Reading::Read => {
-                p = r.profile;
+        let t = numerals::trimmed(q);
+        if !is_skipped(t) {
+            let r = read_mechanism(n, p, t);
+            let a = r.answer;
+            match a {
+                Reading::Refused(no) => {
+                    return refused(no);
+                }
+                Reading::Read => {
+                    p = r.profile;
+                }
             }
         }
         at = at + q.len();
@@ -69,18 +74,21 @@ fn read_mechanisms(n: usize, s: &[u8]) -> Parsed
     }
 }
 
-// A mechanism: empty ones and `none` are skipped.
-fn read_mechanism(n: usize, p: Profile, s: &[u8]) -> Parsed
-    requires { ⌜ n ≤ 16 ⌝ }
-    ensures { λ r. ⌜ r ≡ parsed (mechanismIn n p (now (s .entry))) ⌝ }
+// Whether a trimmed mechanism is empty or `none`.
+fn is_skipped(t: &[u8]) -> bool
+    ensures { λ r. ⌜ r ≡ (isEmpty (now (t .entry)) || isSame (now (t .entry)) NONE) ⌝ }
 {
-    let t = numerals::trimmed(s);
     if t.len() == 0 {
-        return read(p);
+        return true;
     }
-    if numerals::same(t, b"none") {
-        return read(p);
-    }
+    numerals::same(t, b"none")
+}
+
+// A trimmed mechanism that is not skipped: its name ends at the first colon.
+fn read_mechanism(n: usize, p: Profile, t: &[u8]) -> Parsed
+    requires { ⌜ n ≤ 16 ⌝ }
+    ensures { λ r. ⌜ r ≡ parsed (namedIn n p (trim (before 58 (now (t .entry)))) (behind 58 (now (t .entry)))) ⌝ }
+{
     let c = numerals::find(t, b':');
     read_named(
         n,
