@@ -3,8 +3,6 @@ use mathlib.Core.Path.{_≡_, refl}
 use mathlib.Core.Bool.{Bool, true, false}
 use mathlib.Core.List.{List, [], _∷_, _++_, map}
 use Prim.Native.Nat.{ℕ, zero, suc}
-use Prim.Native.Char.{code}
-use Prim.Native.String.{String, [] as empty, _∷_ as _then_}
 use lib.Count.{trailingZeros}
 use lib.IntN.{pos, negsuc}
 use lib.Ieee.{Float, fin, isNan, lt, le, round, size, units, odd, span, climb}
@@ -14,6 +12,7 @@ use Rattle.refusals.specs.Limits.{isPopulation}
 use Rattle.floats.specs.Floats.{plusZero, one, isProbability}
 use Rattle.profiles.specs.declared.Profile.{Profile}
 use Rattle.profiles.specs.Profile.{isThreshold, probsFit}
+use Rattle.numerals.specs.Quoted.{bytes}
 use Rattle.numerals.specs.Text.{isText, isSame, trimStart, trimEnd, trim, cutBy, split}
 use Rattle.numerals.specs.Read.{readEach}
 use Rattle.numerals.specs.Whole.{isDigits, spelt, unplussed, wholeOf, belowOf, memberOf, memberIn, membersOf}
@@ -64,18 +63,13 @@ likely probs threshold = profile false [] probs threshold
 
 -- ---- the table
 
--- the bytes of a text, which are its characters' numbers where those are below 128
-bytes : String → List ℕ
-bytes empty = []
-bytes (c then t) = code c ∷ bytes t
-
 times : ℕ → List ℕ → List ℕ
 times zero part = []
 times (suc k) part = part ++ times k part
 
 -- a start, k times a part, and an end
 repeated : String → ℕ → String → String → List ℕ
-unfolding bytes times
+unfolding times
 repeated start k part end = bytes start ++ times k (bytes part) ++ bytes end
 
 record Line : Type 0 where

@@ -26,7 +26,7 @@ use Rattle.decimals.specs.declared.Decimal.the-variants as Readings
 use Rattle.profile_text.specs.declared.Reading.the-variants.{Refused, Read}
 use Rattle.profile_text.specs.declared.Decimals.{Decimals}
 use Rattle.profile_text.specs.declared.Parsed.{Parsed}
-use Rattle.profile_text.specs.ProfileText.{filled, withDomain, withWords, withProbs, domainIn, decimalIn, decimalsOf, thresholdOf, fitting, probsIn, NONE, namedIn, mechanismIn, parsed, decimals}
+use Rattle.profile_text.specs.ProfileText.{filled, withDomain, withWords, withProbs, domainIn, decimalIn, decimalsOf, thresholdOf, fitting, probsIn, noneName, namedIn, mechanismIn, parsed, decimals}
 
 -- ---- a domain: w is what was answered of its members
 module _ (n : ℕ) (p : Profile) (q : List ℕ) where
@@ -172,7 +172,7 @@ module _ (o : Outcome Profile) {y : Parsed} (g : y ≡ parsed o) where
       go (refused j) t e = let z : _≡_ {A = ℕ} 0 1 = cc in absurd (omega arith)
       go (accepted p) t e = ap accepted e
 
-module _ (n : ℕ) (p : Profile) (q : List ℕ) {t : List ℕ} {b : Bool} (f : t ≡ trim q) (e : b ≡ (isEmpty t || isSame t NONE)) where
+module _ (n : ℕ) (p : Profile) (q : List ℕ) {t : List ℕ} {b : Bool} (f : t ≡ trim q) (e : b ≡ (isEmpty t || isSame t noneName)) where
   pub mechanism-skipped : {r : Profile} → not b ≡ false → r ≡ p → mechanismIn n p q ≡ accepted r
   unfolding mechanismIn
   mechanism-skipped h j = rw (← f, sym e ∙ not-false b h, j)

@@ -12,6 +12,7 @@ use Rattle.refusals.specs.Limits.{isPopulation}
 use Rattle.floats.specs.Floats.{plusZero}
 use Rattle.profiles.specs.declared.Profile.{Profile}
 use Rattle.profiles.specs.Profile.{probsFit}
+use Rattle.numerals.specs.Quoted.{bytes}
 use Rattle.numerals.specs.Text.{isText, isEmpty, isSame, trim, before, behind, split}
 use Rattle.numerals.specs.Read.{readEach}
 use Rattle.numerals.specs.Whole.{membersOf}
@@ -107,28 +108,27 @@ probsIn n p args = andThen (decimalsOf (before 64 args)) (λ ps. andThen (thresh
 
 -- ---- mechanisms
 
--- `none`, `domains`, `probs`, `runtime`
-abbrev pub NONE : List ℕ
-NONE = 110 ∷ 111 ∷ 110 ∷ 101 ∷ []
+abbrev pub noneName : List ℕ
+noneName = bytes "none"
 
-abbrev pub DOMAINS_NAME : List ℕ
-DOMAINS_NAME = 100 ∷ 111 ∷ 109 ∷ 97 ∷ 105 ∷ 110 ∷ 115 ∷ []
+abbrev pub domainsName : List ℕ
+domainsName = bytes "domains"
 
-abbrev pub PROBS_NAME : List ℕ
-PROBS_NAME = 112 ∷ 114 ∷ 111 ∷ 98 ∷ 115 ∷ []
+abbrev pub probsName : List ℕ
+probsName = bytes "probs"
 
-abbrev pub RUNTIME_NAME : List ℕ
-RUNTIME_NAME = 114 ∷ 117 ∷ 110 ∷ 116 ∷ 105 ∷ 109 ∷ 101 ∷ []
+abbrev pub runtimeName : List ℕ
+runtimeName = bytes "runtime"
 
 -- a mechanism of a name, with what follows its colon; `runtime` ignores that
 unfoldable pub namedIn : ℕ → Profile → List ℕ → List ℕ → Outcome Profile
 namedIn n p name args =
-    cond (isSame name DOMAINS_NAME) (domainsIn n p args)
-    (cond (isSame name PROBS_NAME) (probsIn n p args) (cond (isSame name RUNTIME_NAME) (accepted (withRuntime p)) (refused MECHANISM)))
+    cond (isSame name domainsName) (domainsIn n p args)
+    (cond (isSame name probsName) (probsIn n p args) (cond (isSame name runtimeName) (accepted (withRuntime p)) (refused MECHANISM)))
 
 -- empty ones and `none` are skipped; the name ends at the first `:` and is trimmed
 unfoldable pub mechanismIn : ℕ → Profile → List ℕ → Outcome Profile
-mechanismIn n p s = cond (isEmpty (trim s) || isSame (trim s) NONE) (accepted p) (namedIn n p (trim (before 58 (trim s))) (behind 58 (trim s)))
+mechanismIn n p s = cond (isEmpty (trim s) || isSame (trim s) noneName) (accepted p) (namedIn n p (trim (before 58 (trim s))) (behind 58 (trim s)))
 
 unfoldable pub mechanismsOf : ℕ → List ℕ → Outcome Profile
 mechanismsOf n s = readEach (mechanismIn n) nothing (split 59 s)

@@ -24,7 +24,7 @@ use Rattle.numerals.specs.Text.{isText, isEmpty, isSame, trim, before, behind, 
 use Rattle.numerals.specs.Read.{readEach}
 use Rattle.numerals.specs.Whole.{belowOf, memberOf, memberIn, membersOf}
 use Rattle.numerals.specs.WholeLaws.{below-limit}
-use Rattle.profile_text.specs.ProfileText.{nothing, withDomain, withWords, withProbs, withRuntime, domainIn, domainsIn, decimalsOf, thresholdOf, fitting, probsIn, NONE, DOMAINS_NAME, PROBS_NAME, RUNTIME_NAME, namedIn, mechanismIn, mechanismsOf, mostBytes, profileOf}
+use Rattle.profile_text.specs.ProfileText.{nothing, withDomain, withWords, withProbs, withRuntime, domainIn, domainsIn, decimalsOf, thresholdOf, fitting, probsIn, noneName, domainsName, probsName, runtimeName, namedIn, mechanismIn, mechanismsOf, mostBytes, profileOf}
 
 -- ---- what each step keeps, the reading of all parts keeps
 module _ {A B : Type 0} (F : A → Type 0) (step : A → B → Outcome A) (keeps : (a : A) (b : B) (c : A) → F a → step a b ≡ accepted c → F c) where
@@ -101,7 +101,7 @@ module _ (n : ℕ) where
       go (refused k) l t e = let z : _≡_ {A = ℕ} 0 1 = cc in absurd (omega arith)
       go (accepted m) l t e = let z : withDomain p m ≡ r = cc in rw z at (domain-fits p h m l (members-below true n s t))
 
-      pick : (b : Bool) → ltb (p .«domain_count») 64 ≡ b → cond b (andThen (membersOf true n s) (λ m. accepted (withDomain p m))) (refused (DOMAINS)) ≡ accepted r → Fits n r
+      pick : (b : Bool) → ltb (p .«domain_count») 64 ≡ b → cond b (andThen (membersOf true n s) (λ m. accepted (withDomain p m))) (refused DOMAINS) ≡ accepted r → Fits n r
       pick true t e = go (membersOf true n s) (ltb-true (p .«domain_count») 64 t) refl e
       pick false t e = let z : _≡_ {A = ℕ} 0 1 = cc in absurd (omega arith)
 
@@ -128,7 +128,7 @@ module _ (n : ℕ) where
 
   named-keeps : (p : Profile) (name args : List ℕ) (r : Profile) → Fits n p → namedIn n p name args ≡ accepted r → Fits n r
   unfolding namedIn
-  named-keeps p name args r h e = go (isSame name DOMAINS_NAME) (isSame name PROBS_NAME) (isSame name RUNTIME_NAME) e
+  named-keeps p name args r h e = go (isSame name domainsName) (isSame name probsName) (isSame name runtimeName) e
     where
       go : (a b c : Bool) → cond a (domainsIn n p args) (cond b (probsIn n p args) (cond c (accepted (withRuntime p)) (refused MECHANISM))) ≡ accepted r → Fits n r
       go true b c e = domains-keep p args r h e
@@ -138,7 +138,7 @@ module _ (n : ℕ) where
 
   mechanism-keeps : (p : Profile) (s : List ℕ) (r : Profile) → Fits n p → mechanismIn n p s ≡ accepted r → Fits n r
   unfolding mechanismIn
-  mechanism-keeps p s r h e = go (isEmpty (trim s) || isSame (trim s) NONE) e
+  mechanism-keeps p s r h e = go (isEmpty (trim s) || isSame (trim s) noneName) e
     where
       go : (b : Bool) → cond b (accepted p) (namedIn n p (trim (before 58 (trim s))) (behind 58 (trim s))) ≡ accepted r → Fits n r
       go true e = let z : p ≡ r = cc in rw z at h

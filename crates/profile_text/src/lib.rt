@@ -5,7 +5,7 @@ ghost use Prim.Native.Nat.{_<_, _≤_};
 ghost use Rattle.refusals.specs.Outcome.{refused, accepted};
 ghost use Rattle.numerals.specs.Text.{isEmpty, isSame, trim, before, behind};
 ghost use Rattle.decimals.specs.Decimal.{decimal};
-ghost use Rattle.profile_text.specs.ProfileText.{nothing, withDomain, withWords, withRuntime, domainsIn, decimalsOf, thresholdOf, fitting, probsIn, NONE, namedIn, mechanismsOf, profileOf, parsed, decimals};
+ghost use Rattle.profile_text.specs.ProfileText.{nothing, withDomain, withWords, withRuntime, domainsIn, decimalsOf, thresholdOf, fitting, probsIn, noneName, namedIn, mechanismsOf, profileOf, parsed, decimals};
 use decimals::Decimal;
 use numerals::Members;
 use profiles::Profile;
@@ -76,7 +76,7 @@ fn read_mechanisms(n: usize, s: &[u8]) -> Parsed
 
 // Whether a trimmed mechanism is empty or `none`.
 fn is_skipped(t: &[u8]) -> bool
-    ensures { λ r. ⌜ r ≡ (isEmpty (now (t .entry)) || isSame (now (t .entry)) NONE) ⌝ }
+    ensures { λ r. ⌜ r ≡ (isEmpty (now (t .entry)) || isSame (now (t .entry)) noneName) ⌝ }
 {
     if t.len() == 0 {
         return true;
