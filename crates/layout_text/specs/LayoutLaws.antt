@@ -1,18 +1,23 @@
 -- What a layout text that was read gives. Assumes nothing.
 use mathlib.Core.Path.{_≡_, refl, sym, ap}
+use mathlib.Core.Logic.{_↔_}
 use mathlib.Core.Bool.{Bool, true, false, cond, _&&_, and-eq-true-iff}
-use mathlib.Core.List.{List}
-use Prim.Native.Nat.{ℕ, _≤_, _<_, max}
+use mathlib.Core.List.{List, [], _∷_}
+use Prim.Native.Nat.{ℕ, _%_, _≤_, _<_, max}
 use native.Mathlib.Nat.{le-max-left, le-max-right, max-le, div-le-self}
 use native.Mathlib.Omega.{arith}
-use lib.Dec.{leb}
-use borrow.Author.Tests.{leb-true}
-use Rattle.refusals.specs.Numbers.{LAYOUT}
+use lib.Dec.{leb, eqb}
+use borrow.Author.Tests.{leb-true, eqb-true, eq-eqb, not-false}
+use Rattle.refusals.specs.Numbers.{POPULATION, SHARDS, TEXT, LAYOUT, MULTIPLE, TABLE}
+use Rattle.refusals.specs.First.{unless}
+use Rattle.refusals.specs.FirstLaws.{none-holds}
+use Rattle.refusals.specs.Limits.{isPopulation, isShards}
+use Rattle.refusals.specs.LimitLaws.{population-means, shards-means}
 use Rattle.refusals.specs.Outcome.{Outcome, refused, accepted, andThen}
-use Rattle.numerals.specs.Text.{isEmpty, hasByte, before, behind}
+use Rattle.numerals.specs.Text.{isText, isEmpty, hasByte, before, behind}
 use Rattle.numerals.specs.Whole.{wholeOf, belowOf, membersOf}
 use Rattle.numerals.specs.WholeLaws.{below-limit}
-use Rattle.layout_text.specs.LayoutText.{share, lengthOf, segmentOf}
+use Rattle.layout_text.specs.LayoutText.{share, lengthOf, segmentOf, mostBytes, inputRefusal, tableRefusal}
 
 -- ---- runs
 
@@ -57,3 +62,33 @@ segment-below n total s {r} {m} e = go (hasByte 58 s) (belowOf n (before 58 s)) 
     go true (refused k) o' h e = let z : _≡_ {A = ℕ} 0 1 = cc in absurd (omega arith)
     go true (accepted v) (refused k) h e = let z : _≡_ {A = ℕ} 0 1 = cc in absurd (omega arith)
     go true (accepted v) (accepted u) h e = let z : v ≡ r = ap replica e in omega (arith, h v refl)
+
+-- ---- what the checks let through
+module _ (n d total : ℕ) (s : List ℕ) where
+  pub record Readable : Type 0 where
+    pub population : (1 ≤ n) × (n ≤ 16)
+    pub shards : (1 ≤ d) × (d ≤ total) × (total ≤ 64)
+    pub text : isText mostBytes s ≡ true
+
+  pub readable : (inputRefusal n d total s ≡ 0) ↔ Readable
+  unfolding inputRefusal
+  readable = (
+    λ e.
+        let h = none-holds (unless (isPopulation n) POPULATION ∷ unless (isShards d total) SHARDS ∷ unless (isText mostBytes s) TEXT ∷ []) refl .0 e in
+        record {
+          population = population-means n .0 (not-false _ (h .0));
+          shards = shards-means d total .0 (not-false _ (h .1 .0));
+          text = not-false _ (h .1 .1 .0);
+        },
+    λ r. simp (population-means n .1 (r .population), shards-means d total .1 (r .shards), r .text),
+  )
+
+-- a total of as many shards for each, and a table of n words
+pub tabled : (n total len : ℕ) → (tableRefusal n total len ≡ 0) ↔ ((total % n ≡ 0) × (len ≡ n))
+unfolding tableRefusal
+tabled n total len = (
+  λ e.
+      let h = none-holds (unless (eqb (total % n) 0) MULTIPLE ∷ unless (eqb len n) TABLE ∷ []) refl .0 e in
+      (eqb-true (total % n) 0 (not-false _ (h .0)), eqb-true len n (not-false _ (h .1 .0))),
+  λ h. simp (eq-eqb (total % n) 0 (h .0), eq-eqb len n (h .1)),
+)
