@@ -1,6 +1,5 @@
 -- `layout_text::read_layout` meets its contract. Assumes nothing.
-use mathlib.Core.Path.{_≡_, sym, ap, _∙_}
-use native.Mathlib.Omega.{arith}
+use mathlib.Core.Path.{sym, ap, _∙_}
 use borrow.Author.Needs.{needs}
 use Rattle.numerals.specs.Whole.{whole}
 use Rattle.layout_text.specs.LayoutLaws.{length-le}

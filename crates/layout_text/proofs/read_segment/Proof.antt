@@ -1,5 +1,4 @@
 -- `layout_text::read_segment` meets its contract. Assumes nothing.
-use mathlib.Core.Path.{_≡_}
 use native.Mathlib.Omega.{arith}
 use borrow.Author.Needs.{needs}
 use Rattle.layout_text.proofs.Rows.{colon-le, colon-none, colon-inside, replica-refused, shards-refused, segment-read}

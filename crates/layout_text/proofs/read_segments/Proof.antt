@@ -54,8 +54,7 @@ read-segments-spec =
     (λ c.
     let k = c .before .before .before .before in
     let r = k .before .before in
-    let e = row-united _ _ _ (r .read-segment .ensures) (k .r .given .1) (r .before .before .loop .words) (c .before .union .ensures) in
-    (
+    let e = row-united _ _ _ (r .read-segment .ensures) (k .r .given .1) (r .before .before .loop .words) (c .before .union .ensures) in (
       search needs,
       simp length-set (r .before .before .loop .inv .1),
       read-more (segmentIn _ _) _ (r .before .before .loop .inv .2) (r .before .part .ensures) e (c .if1 .left),
