@@ -108,6 +108,6 @@ sheet =
     ∷ []
 
 answered : map (λ (l : Line). initOf (l .n) (l .d) (l .total) (l .s) (l .len)) sheet ≡ map (λ (l : Line). l .says) sheet
-unfolding bytes line sheet initOf inputRefusal isPopulation isShards isText layoutOf lengthOf wholeOf isDigits unplussed spelt eachBelow gather segmentsOf readEach
-    split segmentIn segmentOf cutBy belowOf membersOf memberIn memberOf tableRefusal
+unfolding bytes line sheet initOf inputRefusal isPopulation isShards isText layoutOf lengthOf wholeOf isDigits unplussed spelt eachBelow gather segmentsOf
+    readEach split segmentIn segmentOf cutBy belowOf membersOf memberIn memberOf tableRefusal
 answered = refl

@@ -88,7 +88,8 @@ module _ (n d total : ℕ) (s : List ℕ) {w : Whole} (e : whole w ≡ lengthOf 
   unfolding layoutOf
   layout-runs q h = rw (sym e ∙ ap whole q) (ap accepted h)
 
-  pub layout-segments : {k : ℕ} {words : List ℕ} {O : Outcome (List ℕ)} → w ≡ Wholes.Refused k → words ≡ replicate n 0 → O ≡ readEach (segmentIn n total) words (split 47 s) → O ≡ layoutOf n d total s
+  pub layout-segments : {k : ℕ} {words : List ℕ} {O : Outcome (List ℕ)}
+      → w ≡ Wholes.Refused k → words ≡ replicate n 0 → O ≡ readEach (segmentIn n total) words (split 47 s) → O ≡ layoutOf n d total s
   unfolding layoutOf segmentsOf
   layout-segments q z h = rw (sym e ∙ ap whole q, sym z) h
 

@@ -32,15 +32,16 @@ use Rattle.layout_text.specs.WidthLaws.{none-below, or-below, run-below,
 
 -- ---- runs
 
--- the text gives a length exactly if it is empty, and that is the share, or a number from the share to d
-abbrev Fitting : ℕ → ℕ → ℕ → List ℕ → ℕ → Type 0
+-- the text is empty, and k is the share, or it is the number k, from the share to d
+abbrev pub Fitting : ℕ → ℕ → ℕ → List ℕ → ℕ → Type 0
 Fitting n d total s k = ((length s ≡ 0) × (share n total ≡ k)) ⊎ ((wholeOf s ≡ accepted k) × (share n total ≤ k) × (k ≤ d))
 
 fitting : (n d total : ℕ) (s : List ℕ) {k : ℕ} → lengthOf n d total s ≡ accepted k → Fitting n d total s k
 unfolding lengthOf
 fitting n d total s {k} e = go (isEmpty s) refl (wholeOf s) refl e
   where
-    pick : (v : ℕ) → wholeOf s ≡ accepted v → (t : Bool) → (leb (share n total) v && leb v d) ≡ t → cond t (accepted v) (refused LAYOUT) ≡ accepted k → Fitting n d total s k
+    pick : (v : ℕ) → wholeOf s ≡ accepted v → (t : Bool) → (leb (share n total) v && leb v d) ≡ t
+        → cond t (accepted v) (refused LAYOUT) ≡ accepted k → Fitting n d total s k
     pick v w true q e =
         let z : v ≡ k = cc in
         let b = and-eq-true-iff (leb (share n total) v) (leb v d) .0 q in
@@ -48,7 +49,8 @@ fitting n d total s {k} e = go (isEmpty s) refl (wholeOf s) refl e
     pick v w false q e = let z : _≡_ {A = ℕ} 0 1 = cc in absurd (omega arith)
 
     go : (b : Bool) → isEmpty s ≡ b → (o : Outcome ℕ) → wholeOf s ≡ o
-        → cond b (accepted (share n total)) (andThen o (λ v. cond (leb (share n total) v && leb v d) (accepted v) (refused LAYOUT))) ≡ accepted k → Fitting n d total s k
+        → cond b (accepted (share n total)) (andThen o (λ v. cond (leb (share n total) v && leb v d) (accepted v) (refused LAYOUT))) ≡ accepted k
+        → Fitting n d total s k
     go true q o w e = let z : share n total ≡ k = cc in inl (eqb-true (length s) 0 q, z)
     go false q (refused x) w e = let z : _≡_ {A = ℕ} 0 1 = cc in absurd (omega arith)
     go false q (accepted v) w e = pick v w (leb (share n total) v && leb v d) refl e
@@ -63,8 +65,8 @@ given n d total s k (inl h) = rw (eq-eqb (length s) 0 (h .0)) (ap accepted (h .1
 given n d total [] k (inr h) = absurd (empty-unread k (h .0))
 given n d total (b ∷ bs) k (inr h) = rw (ne-eqb (suc (length bs)) 0 (λ e. omega arith), h .0, le-leb (share n total) k (h .1), le-leb k d (h .2))
 
-pub length-means : (n d total : ℕ) (s : List ℕ) (k : ℕ)
-    → (lengthOf n d total s ≡ accepted k) ↔ (((length s ≡ 0) × (share n total ≡ k)) ⊎ ((wholeOf s ≡ accepted k) × (share n total ≤ k) × (k ≤ d)))
+-- the text gives the length k exactly then
+pub length-means : (n d total : ℕ) (s : List ℕ) (k : ℕ) → (lengthOf n d total s ≡ accepted k) ↔ Fitting n d total s k
 length-means n d total s k = (λ e. fitting n d total s e, given n d total s k)
 
 -- so it is at most the total
@@ -96,7 +98,8 @@ segment-below n total s {r} {m} e = go (hasByte 58 s) (belowOf n (before 58 s)) 
 -- the shards that it names are below the total
 pub segment-row : (n total : ℕ) (s : List ℕ) {r m : ℕ} → segmentOf n total s ≡ accepted (r, m) → isRow total m ≡ true
 unfolding segmentOf
-segment-row n total s {r} {m} e = go (hasByte 58 s) (belowOf n (before 58 s)) (membersOf false total (behind 58 s)) (λ u h. members-below false total (behind 58 s) h) e
+segment-row n total s {r} {m} e =
+    go (hasByte 58 s) (belowOf n (before 58 s)) (membersOf false total (behind 58 s)) (λ u h. members-below false total (behind 58 s) h) e
   where
     go : (b : Bool) (o o' : Outcome ℕ) → ((u : ℕ) → o' ≡ accepted u → isRow total u ≡ true)
         → cond b (andThen {B = ℕ × ℕ} o (λ r. andThen {B = ℕ × ℕ} o' (λ m. accepted (r, m)))) (refused LAYOUT) ≡ accepted (r, m) → isRow total m ≡ true
@@ -136,6 +139,7 @@ abbrev pub runsOnly : ℕ → ℕ → Outcome ℕ → Outcome (List ℕ)
 runsOnly n total (accepted k) = accepted (runsOf n total k)
 runsOnly n total (refused k) = refused LAYOUT
 
+-- a text without a colon comes to that
 pub no-colon : (n d total : ℕ) (s : List ℕ) → hasByte 58 s ≡ false → layoutOf n d total s ≡ runsOnly n total (lengthOf n d total s)
 unfolding layoutOf
 no-colon n d total s h = go (lengthOf n d total s)
@@ -158,12 +162,16 @@ module _ (n total : ℕ) where
   AreRows rows = (length rows ≡ n) × (all (isRow total) rows ≡ true)
 
   pub runs-are-rows : (k : ℕ) → 0 < total → AreRows (runsOf n total k)
-  runs-are-rows k p = (each-below-length (runAt n total k) n, each-below-all (runAt n total k) (isRow total) 0 n (λ r h. run-below total (r * share n total) k p))
+  runs-are-rows k p = (
+    each-below-length (runAt n total k) n,
+    each-below-all (runAt n total k) (isRow total) 0 n (λ r h. run-below total (r * share n total) k p),
+  )
 
   none-are-rows : AreRows (replicate n 0)
   none-are-rows = (
     length-replicate n 0,
-    all-means (isRow total) 0 (replicate n 0) .1 (λ i h. ap (isRow total) (getD-replicate n i 0 0 (omega (arith, length-replicate {A = ℕ} n 0))) ∙ none-below total),
+    all-means (isRow total) 0 (replicate n 0) .1 (λ i h.
+        ap (isRow total) (getD-replicate n i 0 0 (omega (arith, length-replicate {A = ℕ} n 0))) ∙ none-below total),
   )
 
   -- one more row
@@ -178,7 +186,8 @@ module _ (n total : ℕ) where
     set-are-rows : (r m : ℕ) → isRow total m ≡ true → AreRows (set rows r (bitOr (getD rows r 0) m))
     set-are-rows r m g = (
       length-set rows r (bitOr (getD rows r 0) m) ∙ h .0,
-      all-means (isRow total) 0 (set rows r (bitOr (getD rows r 0) m)) .1 (λ i l. go i (ℕ-discrete i r) (omega (arith, length-set rows r (bitOr (getD rows r 0) m)))),
+      all-means (isRow total) 0 (set rows r (bitOr (getD rows r 0) m)) .1 (λ i l.
+          go i (ℕ-discrete i r) (omega (arith, length-set rows r (bitOr (getD rows r 0) m)))),
     )
       where
         go : (i : ℕ) → Dec (i ≡ r) → i < length rows → isRow total (getD (set rows r (bitOr (getD rows r 0) m)) i 0) ≡ true

@@ -27,7 +27,8 @@ parse-init-assignment-spec =
     let t = c .before .before in
     let l = t .before .before .before in
     let i = l .before .before in
-    ends-untabled _ _ _ _ _ (i .before .input-refusal .ensures) (i .if1 .left) (l .read-layout .last .1 .1 .1 .1 .0) (l .read-layout .ensures) (t .enum-told .given .1) (c .before .table-refusal .ensures) (c .if2 .taken))
+    ends-untabled _ _ _ _ _ (i .before .input-refusal .ensures) (i .if1 .left) (l .read-layout .last .1 .1 .1 .1 .0) (l .read-layout .ensures) (t .enum-told .given .1)
+    (c .before .table-refusal .ensures) (c .if2 .taken))
     (λ c. search needs)
     (λ c κs.
     let y = c .before .before in
@@ -40,12 +41,14 @@ parse-init-assignment-spec =
     (λ c.
     let l = c .before .before .before .before in
     let i = l .before .before in
-    ends-misread _ _ _ _ _ (i .before .input-refusal .ensures) (i .if1 .left) (l .read-layout .last .1 .1 .1 .1 .0) (l .read-layout .ensures) (c .before .fault .given .1))
+    ends-misread _ _ _ _ _ (i .before .input-refusal .ensures) (i .if1 .left) (l .read-layout .last .1 .1 .1 .1 .0) (l .read-layout .ensures)
+    (c .before .fault .given .1))
     (λ c. search needs)
     (λ c.
     let y = c .before .before .before .before .before in
     let t = y .before .before in
     let l = t .before .before .before in
     let i = l .before .before in
-    ends-written _ _ _ _ (i .before .before .before .before .args .rows .now) (i .before .input-refusal .ensures) (i .if1 .left) (l .read-layout .last .1 .1 .1 .1 .0) (l .read-layout .ensures) (t .enum-told .given .1) (y .before .table-refusal .ensures)
+    ends-written _ _ _ _ (i .before .before .before .before .args .rows .now) (i .before .input-refusal .ensures) (i .if1 .left) (l .read-layout .last .1 .1 .1 .1 .0)
+    (l .read-layout .ensures) (t .enum-told .given .1) (y .before .table-refusal .ensures)
     (y .if2 .left) (c .before .before .copy .ensures)))
