@@ -1,2 +1,4 @@
--- The layout text: what it is read to, and what refuses it.
+-- The layout text: what it is read to, what refuses it, and what follows.
 pub mod LayoutText
+pub mod WidthLaws
+pub mod LayoutLaws

@@ -9,9 +9,9 @@ use native.Mathlib.Nat.{le-refl, le-trans}
 use native.Mathlib.Decide.{le-ind}
 use native.Mathlib.Numerals.{add-one}
 use native.Mathlib.Omega.{arith}
-use lib.ListN.{length, set, length-append, length-drop}
-use lib.Seq.{set-append-seam, drop-cons}
-use Rattle.lists.specs.Below.{thoseBelow, front}
+use lib.ListN.{length, take, set, length-append, length-drop}
+use lib.Seq.{set-append-seam, drop-cons, take-suc-set}
+use Rattle.lists.specs.Below.{thoseBelow, eachBelow, front}
 
 -- ---- one list at the front of another
 module _ (xs l : List ℕ) where
@@ -83,3 +83,17 @@ module _ (f : ℕ → Bool) where
 
         pub write-done : k ≤ L → L ≤ k → w ≡ front (thoseBelow f n) l
         write-done h g = let q : k ≡ n = omega arith in written ∙ ap (λ (x : ℕ). front (thoseBelow f x) l) q
+
+-- ---- a loop up to n that writes f 0, f 1, .. at the places 0, 1, ..: w is the list as written so far
+module _ {A : Type 0} (f : ℕ → A) where
+  pub each-none : [] ≡ eachBelow f 0
+  unfolding eachBelow
+  each-none = refl
+
+  module _ (w : List A) (k : ℕ) (written : take k w ≡ eachBelow f k) where
+    pub each-more : (x : A) → k < length w → x ≡ f k → take (k + 1) (set w k x) ≡ eachBelow f (k + 1)
+    unfolding eachBelow
+    each-more x h e = rw (add-one, take-suc-set w k x h, written, e)
+
+    pub each-done : (n : ℕ) → k ≤ n → n ≤ k → take n w ≡ eachBelow f n
+    each-done n h g = let q : k ≡ n = omega arith in rw q at written

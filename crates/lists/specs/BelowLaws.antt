@@ -8,7 +8,11 @@ use native.Mathlib.Nat.{not-suc-le-zero, le-of-suc-le-suc, eq-or-lt-of-le}
 use native.Mathlib.Omega.{arith}
 use borrow.Author.Tests.{lt-ltb}
 use lib.Dec.{ltb}
-use Rattle.lists.specs.Below.{someBelow, thoseBelow}
+use lib.ListN.{length, getD, length-append, List·getD-append}
+use lib.Seq.{getD-at}
+use Rattle.lists.specs.All.{all}
+use Rattle.lists.specs.AllLaws.{all-means}
+use Rattle.lists.specs.Below.{someBelow, thoseBelow, eachBelow}
 use Rattle.lists.specs.SortLaws.{AtLeast, Ordered}
 
 -- a number below k that passes
@@ -104,3 +108,27 @@ module _ (f g : ℕ → Bool) where
   unfolding thoseBelow
   those-below-same zero h = refl
   those-below-same (suc k) h = rw (those-below-same k (λ i l. h i (omega arith)), h k (omega arith))
+
+-- ---- a value for each number below k
+module _ {A : Type 0} (f : ℕ → A) where
+  pub each-below-length : (k : ℕ) → length (eachBelow f k) ≡ k
+  unfolding eachBelow
+  each-below-length zero = refl
+  each-below-length (suc k) = length-append (eachBelow f k) (f k ∷ []) ∙ omega (arith, each-below-length k)
+
+  -- at each place
+  pub each-below-at : (k i : ℕ) (d : A) → i < k → getD (eachBelow f k) i d ≡ f i
+  unfolding eachBelow
+  each-below-at zero i d h = absurd (not-suc-le-zero h)
+  each-below-at (suc k) i d h =
+      ⊎-elim
+      (λ (q : i ≡ k). getD-at (eachBelow f k) (f k) [] d i (each-below-length k ∙ sym q) ∙ ap f (sym q))
+      (λ (l : i < k). List·getD-append (eachBelow f k) (f k ∷ []) d i (omega (arith, each-below-length k)) ∙ each-below-at k i d l)
+      (eq-or-lt-of-le (le-of-suc-le-suc h))
+
+  -- a test that each of them passes
+  pub each-below-all : (p : A → Bool) (d : A) (k : ℕ) → ((i : ℕ) → i < k → p (f i) ≡ true) → all p (eachBelow f k) ≡ true
+  each-below-all p d k h =
+      all-means p d (eachBelow f k) .1 (λ i l.
+      let g : i < k = rw (each-below-length k) at l in
+      ap p (each-below-at k i d g) ∙ h i g)
