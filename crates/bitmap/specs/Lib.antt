@@ -4,3 +4,4 @@ pub mod MaskLaws
 pub mod CountLaws
 pub mod Members
 pub mod RunLaws
+pub mod WidthLaws

@@ -2,22 +2,16 @@
 use mathlib.Core.Path.{_≡_, refl}
 use mathlib.Core.List.{List, [], _∷_, map}
 use Prim.Native.Nat.{ℕ}
-use Prim.Native.Char.{code}
-use Prim.Native.String.{String, [] as nothing, _∷_ as _then_}
 use lib.ListN.{replicate}
 use Rattle.lists.specs.Below.{eachBelow}
 use Rattle.bitmap.specs.Mask.{gather}
 use Rattle.refusals.specs.Outcome.{Outcome, refused, accepted}
 use Rattle.refusals.specs.Limits.{isPopulation, isShards}
+use Rattle.numerals.specs.Quoted.{bytes}
 use Rattle.numerals.specs.Text.{isText, cutBy, split}
 use Rattle.numerals.specs.Read.{readEach}
 use Rattle.numerals.specs.Whole.{isDigits, spelt, unplussed, wholeOf, belowOf, memberOf, memberIn, membersOf}
 use Rattle.layout_text.specs.LayoutText.{lengthOf, segmentOf, segmentIn, segmentsOf, layoutOf, inputRefusal, tableRefusal, initOf}
-
--- the bytes of a text, which are its characters' numbers where those are below 128
-bytes : String → List ℕ
-bytes nothing = []
-bytes (c then t) = code c ∷ bytes t
 
 -- the population, the data shards, the total, the text, how many words are lent, and what it is read to
 record Line : Type 0 where
@@ -32,7 +26,7 @@ line : ℕ → ℕ → ℕ → List ℕ → ℕ → Outcome (List ℕ) → Line
 line n d total s len says = record { n = n; d = d; total = total; s = s; len = len; says = says }
 
 sheet : List Line
-unfolding bytes line
+unfolding line
 sheet =
     -- runs: the empty text gives each its share; a number from the share to d; runs wrap modulo the total; a + and zeros before it
     line 3 4 6 (bytes "") 3 (accepted (3 ∷ 12 ∷ 48 ∷ []))
@@ -108,6 +102,6 @@ sheet =
     ∷ []
 
 answered : map (λ (l : Line). initOf (l .n) (l .d) (l .total) (l .s) (l .len)) sheet ≡ map (λ (l : Line). l .says) sheet
-unfolding bytes line sheet initOf inputRefusal isPopulation isShards isText layoutOf lengthOf wholeOf isDigits unplussed spelt eachBelow gather segmentsOf
+unfolding line sheet initOf inputRefusal isPopulation isShards isText layoutOf lengthOf wholeOf isDigits unplussed spelt eachBelow gather segmentsOf
     readEach split segmentIn segmentOf cutBy belowOf membersOf memberIn memberOf tableRefusal
 answered = refl

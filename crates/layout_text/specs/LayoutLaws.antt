@@ -16,6 +16,7 @@ use borrow.Author.Tests.{leb-true, le-leb, ltb-false, le-ltb, eqb-true, eq-eqb, 
 use Rattle.lists.specs.All.{all}
 use Rattle.lists.specs.AllLaws.{all-means}
 use Rattle.lists.specs.BelowLaws.{each-below-length, each-below-all}
+use Rattle.bitmap.specs.WidthLaws.{none-below, or-below, run-below}
 use Rattle.refusals.specs.Numbers.{POPULATION, SHARDS, TEXT, LAYOUT, MULTIPLE, TABLE}
 use Rattle.refusals.specs.First.{unless}
 use Rattle.refusals.specs.FirstLaws.{none-holds}
@@ -24,11 +25,10 @@ use Rattle.refusals.specs.Limits.{isPopulation, isShards, isRow}
 use Rattle.refusals.specs.LimitLaws.{population-means, shards-means}
 use Rattle.numerals.specs.Text.{isText, isEmpty, cutBy, isByte, cut, hasByte, before, behind, split}
 use Rattle.numerals.specs.TextLaws.{PartOf, cut-le}
-use Rattle.numerals.specs.ReadLaws.{read-refused}
+use Rattle.numerals.specs.ReadLaws.{read-keeps, read-refused}
 use Rattle.numerals.specs.Whole.{isDigits, unplussed, wholeOf, belowOf, membersOf}
-use Rattle.numerals.specs.WholeLaws.{below-limit}
+use Rattle.numerals.specs.WholeLaws.{below-limit, members-below}
 use Rattle.layout_text.specs.LayoutText.{share, runAt, runsOf, lengthOf, segmentOf, segmentIn, segmentsOf, orSegments, layoutOf, mostBytes, inputRefusal, tableRefusal, initOf}
-use Rattle.layout_text.specs.WidthLaws.{none-below, or-below, run-below, members-below, read-keeps}
 
 -- ---- runs
 

@@ -4,7 +4,7 @@ use mathlib.Core.List.{List, [], _∷_}
 use Prim.Native.Nat.{ℕ, _*_, _/_, _%_}
 use lib.Bits.{bitOr}
 use lib.Dec.{leb, eqb}
-use lib.ListN.{length, set, getD, replicate}
+use lib.ListN.{set, getD, replicate}
 use Rattle.lists.specs.Below.{eachBelow}
 use Rattle.bitmap.specs.Mask.{runModulo}
 use Rattle.refusals.specs.Numbers.{POPULATION, SHARDS, TEXT, LAYOUT, MULTIPLE, TABLE}

@@ -1,4 +1,3 @@
 -- The layout text: what it is read to, what refuses it, and what follows.
 pub mod LayoutText
-pub mod WidthLaws
 pub mod LayoutLaws

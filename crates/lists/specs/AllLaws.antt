@@ -2,7 +2,7 @@
 use mathlib.Core.Path.{_≡_, refl, sym, ap}
 use mathlib.Core.Logic.{_↔_}
 use mathlib.Core.Bool.{Bool, true, false, _||_, and-eq-true-iff, true≢false}
-use mathlib.Core.List.{List, [], _∷_}
+use mathlib.Core.List.{List, [], _∷_, _++_}
 use Prim.Native.Nat.{ℕ, zero, suc, _<_, suc-le-suc}
 use native.Mathlib.Nat.{zero-lt-suc, not-suc-le-zero, le-of-suc-le-suc}
 use lib.ListN.{length, getD}
@@ -75,3 +75,10 @@ module _ {A : Type 0} (p q : A → Bool) (same : (x : A) → p x ≡ q x) where
   pub all-same : (xs : List A) → all p xs ≡ all q xs
   all-same [] = refl
   all-same (x ∷ xs) = rw (same x, all-same xs)
+
+-- one element more
+pub all-more : {A : Type 0} (p : A → Bool) (xs : List A) (x : A) → all p xs ≡ true → p x ≡ true → all p (xs ++ (x ∷ [])) ≡ true
+all-more p [] x h e = rw e
+all-more p (y ∷ ys) x h e =
+    let b = and-eq-true-iff (p y) (all p ys) .0 h in
+    and-eq-true-iff (p y) (all p (ys ++ (x ∷ []))) .1 (b .0, all-more p ys x (b .1) e)

@@ -1,5 +1,5 @@
--- What `readEach` says: the first fault from the left decides. And one step of it at a part of a text. Assumes nothing.
-use mathlib.Core.Path.{_≡_, refl, sym, ap, _∙_}
+-- What `readEach` says: the first fault from the left decides, and what each step keeps is kept. And one step of it at a part of a text. Assumes nothing.
+use mathlib.Core.Path.{_≡_, refl, sym, ap, subst, _∙_}
 use mathlib.Core.Logic.{_↔_}
 use mathlib.Core.List.{List, [], _∷_, _++_}
 use Prim.Native.Nat.{ℕ, _+_}
@@ -51,6 +51,17 @@ module _ {A B : Type 0} (step : A → B → Outcome A) where
     faulted a ps k,
     λ f. rw (f .parts-are, read-append a (f .sooner) (f .part ∷ f .after), f .reads, f .faulty),
   )
+
+-- ---- what each step keeps, the reading of all parts keeps
+module _ {A B : Type 0} (P : A → Type 0) (step : A → B → Outcome A) (keeps : (a b : A) (p : B) → P a → step a p ≡ accepted b → P b) where
+  pub read-keeps : (a : A) (ps : List B) {b : A} → P a → readEach step a ps ≡ accepted b → P b
+  unfolding readEach
+  read-keeps a [] {b} h e = let z : a ≡ b = cc in subst P z h
+  read-keeps a (p ∷ ps) {b} h e = go (step a p) refl (λ x. read-keeps x ps) e
+    where
+      go : (o : Outcome A) → step a p ≡ o → ((x : A) → P x → readEach step x ps ≡ accepted b → P b) → andThen o (λ x. readEach step x ps) ≡ accepted b → P b
+      go (refused k) q ih e = let z : _≡_ {A = ℕ} 0 1 = cc in absurd (omega arith)
+      go (accepted x) q ih e = ih x (keeps a x p h q) e
 
 -- ---- a loop over the parts between the bytes x, at the part q, with a read so far; W is what the whole text is read to
 module _ {A : Type 0} (step : A → List ℕ → Outcome A) (a : A) {W : Outcome A} {p x : ℕ} {s q : List ℕ} (inv : W ≡ readEach step a (split x (drop p s))) (h : PartOf s p x q) where

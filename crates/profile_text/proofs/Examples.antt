@@ -3,6 +3,7 @@ use mathlib.Core.Path.{_≡_, refl}
 use mathlib.Core.Bool.{Bool, true, false}
 use mathlib.Core.List.{List, [], _∷_, _++_, map}
 use Prim.Native.Nat.{ℕ, zero, suc}
+use Prim.Native.String.{String}
 use lib.Count.{trailingZeros}
 use lib.IntN.{pos, negsuc}
 use lib.Ieee.{Float, fin, isNan, lt, le, round, size, units, odd, span, climb}
@@ -81,7 +82,7 @@ line : ℕ → List ℕ → Outcome Profile → Line
 line n text says = record { n = n; text = text; says = says }
 
 sheet : List Line
-unfolding line profile bare grouped likely bytes times repeated
+unfolding line profile bare grouped likely times repeated
 sheet =
     -- skipped: nothing, `none`, empty parts; what follows the colon of `runtime` is not read
     line 3 (bytes "") (accepted (bare false))
@@ -154,7 +155,7 @@ sheet =
     ∷ []
 
 answered : map (λ (l : Line). profileOf (l .n) (l .text)) sheet ≡ map (λ (l : Line). l .says) sheet
-unfolding line profile bare grouped likely bytes times repeated sheet profileOf mechanismsOf mechanismIn namedIn domainsIn domainIn probsIn decimalsOf decimalIn thresholdOf fitting nothing
+unfolding line profile bare grouped likely times repeated sheet profileOf mechanismsOf mechanismIn namedIn domainsIn domainIn probsIn decimalsOf decimalIn thresholdOf fitting nothing
     withDomain withWords withRuntime readEach split trim trimStart trimEnd cutBy isText isSame isDigits spelt unplussed wholeOf belowOf memberOf memberIn membersOf
     decimalOf writtenOf isNegative unsigned isPopulation probsFit isThreshold isProbability isNan lt le round size units odd span climb trailingZeros
 answered = refl

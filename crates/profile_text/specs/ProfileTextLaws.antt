@@ -1,19 +1,16 @@
 -- A profile that is read is refused by no entry that it is handed to. Assumes nothing.
 use mathlib.Core.Path.{_≡_, refl, _∙_}
-use mathlib.Core.Bool.{Bool, true, false, cond, _&&_, _||_}
-use mathlib.Core.List.{List, [], _∷_, _++_}
-use Prim.Native.Nat.{ℕ, zero, suc, _^_, _≤_, _<_}
+use mathlib.Core.Bool.{Bool, true, false, cond, _||_}
+use mathlib.Core.List.{List, [], _∷_}
+use Prim.Native.Nat.{ℕ, zero, suc, _≤_, _<_}
 use native.Mathlib.Omega.{arith}
 use native.Mathlib.Numerals.{add-one}
-use lib.Bits.{or-lt}
 use lib.Dec.{ltb}
 use lib.Ieee.{Float}
 use lib.ListN.{length, length-set}
-use lib.Pow.{pow-lt, pow-pos}
 use lib.Seq.{take-suc-set}
-use borrow.Author.Tests.{ltb-true, lt-ltb, le-leb}
-use Rattle.lists.specs.All.{all}
-use Rattle.bitmap.specs.Mask.{withBit}
+use borrow.Author.Tests.{ltb-true, le-leb}
+use Rattle.lists.specs.AllLaws.{all-more}
 use Rattle.refusals.specs.Numbers.{POPULATION, TEXT, MECHANISM, PROBABILITIES, DOMAINS}
 use Rattle.refusals.specs.First.{unless, firstOf}
 use Rattle.refusals.specs.Outcome.{Outcome, refused, accepted, checked, andThen}
@@ -22,44 +19,12 @@ use Rattle.profiles.specs.declared.Profile.{Profile}
 use Rattle.profiles.specs.Profile.{domainsOf, domainsFit, probsFit, domainsCounted, profileCases}
 use Rattle.numerals.specs.Text.{isText, isEmpty, isSame, trim, before, behind, split}
 use Rattle.numerals.specs.Read.{readEach}
-use Rattle.numerals.specs.Whole.{belowOf, memberOf, memberIn, membersOf}
-use Rattle.numerals.specs.WholeLaws.{below-limit}
+use Rattle.numerals.specs.Whole.{membersOf}
+use Rattle.numerals.specs.ReadLaws.{read-keeps}
+use Rattle.numerals.specs.WholeLaws.{members-below}
 use Rattle.profile_text.specs.ProfileText.{nothing, withDomain, withWords, withProbs, withRuntime, domainIn, domainsIn, decimalsOf, thresholdOf, fitting, probsIn, noneName, domainsName, probsName, runtimeName, namedIn, mechanismIn, mechanismsOf, mostBytes, profileOf}
 
--- ---- what each step keeps, the reading of all parts keeps
-module _ {A B : Type 0} (F : A → Type 0) (step : A → B → Outcome A) (keeps : (a : A) (b : B) (c : A) → F a → step a b ≡ accepted c → F c) where
-  kept : (a : A) (bs : List B) (c : A) → F a → readEach step a bs ≡ accepted c → F c
-  unfolding readEach
-  kept a [] c h e = let z : a ≡ c = cc in rw z at h
-  kept a (b ∷ bs) c h e = go (step a b) refl e (λ d. kept d bs c)
-    where
-      go : (o : Outcome A) → step a b ≡ o → andThen o (λ d. readEach step d bs) ≡ accepted c → ((d : A) → F d → readEach step d bs ≡ accepted c → F c) → F c
-      go (refused k) t e ih = let z : _≡_ {A = ℕ} 0 1 = cc in absurd (omega arith)
-      go (accepted d) t e ih = ih d (keeps a b d h t) e
-
--- ---- a mask that is read has members below the limit alone
-module _ (trims : Bool) (n : ℕ) where
-  member-below : (m : ℕ) (s : List ℕ) (r : ℕ) → m < 2 ^ n → memberIn trims n m s ≡ accepted r → r < 2 ^ n
-  unfolding memberIn memberOf
-  member-below m s r h e = go (belowOf n (cond trims (trim s) s)) refl e
-    where
-      go : (o : Outcome ℕ) → belowOf n (cond trims (trim s) s) ≡ o → andThen o (λ v. accepted (withBit m v)) ≡ accepted r → r < 2 ^ n
-      go (refused k) t e = let z : _≡_ {A = ℕ} 0 1 = cc in absurd (omega arith)
-      go (accepted v) t e = let z : withBit m v ≡ r = cc in rw z at (or-lt n m (2 ^ v) h (pow-lt (below-limit n (cond trims (trim s) s) t)))
-
-  pub members-below : (s : List ℕ) {m : ℕ} → membersOf trims n s ≡ accepted m → isMask n m ≡ true
-  unfolding membersOf
-  members-below s {m} e = lt-ltb m (2 ^ n) (kept (λ (k : ℕ). k < 2 ^ n) (memberIn trims n) member-below 0 (split 44 s) m (pow-pos n) e)
-
 -- ---- what every profile has that is read
-all-snoc : (p : ℕ → Bool) (xs : List ℕ) (x : ℕ) → all p xs ≡ true → p x ≡ true → all p (xs ++ (x ∷ [])) ≡ true
-all-snoc p [] x h e = rw e
-all-snoc p (y ∷ ys) x h e = go (p y) h (λ g. all-snoc p ys x g e)
-  where
-    go : (b : Bool) → (b && all p ys) ≡ true → (all p ys ≡ true → all p (ys ++ (x ∷ [])) ≡ true) → (b && all p (ys ++ (x ∷ []))) ≡ true
-    go true h ih = ih h
-    go false h ih = let z : _≡_ {A = ℕ} 0 1 = cc in absurd (omega arith)
-
 pub record Fits (n : ℕ) (p : Profile) : Type 0 where
   pub words : length (p .domains) ≡ 64
   pub room : p .«domain_count» ≤ 64
@@ -79,7 +44,7 @@ module _ (n : ℕ) where
         record {
           words = length-set (p .domains) (p .«domain_count») m ∙ h .words;
           room = omega arith;
-          masks = rw (add-one, take-suc-set (p .domains) (p .«domain_count») m j) (all-snoc (isMask n) (domainsOf p) m (h .masks) e);
+          masks = rw (add-one, take-suc-set (p .domains) (p .«domain_count») m j) (all-more (isMask n) (domainsOf p) m (h .masks) e);
           chances = h .chances;
         }
 
@@ -93,9 +58,9 @@ module _ (n : ℕ) where
 
   -- ---- each mechanism keeps it
 
-  one-keeps : (p : Profile) (s : List ℕ) (r : Profile) → Fits n p → domainIn n p s ≡ accepted r → Fits n r
+  one-keeps : (p r : Profile) (s : List ℕ) → Fits n p → domainIn n p s ≡ accepted r → Fits n r
   unfolding domainIn
-  one-keeps p s r h e = pick (ltb (p .«domain_count») 64) refl e
+  one-keeps p r s h e = pick (ltb (p .«domain_count») 64) refl e
     where
       go : (o : Outcome ℕ) → p .«domain_count» < 64 → membersOf true n s ≡ o → andThen o (λ m. accepted (withDomain p m)) ≡ accepted r → Fits n r
       go (refused k) l t e = let z : _≡_ {A = ℕ} 0 1 = cc in absurd (omega arith)
@@ -107,7 +72,7 @@ module _ (n : ℕ) where
 
   domains-keep : (p : Profile) (args : List ℕ) (r : Profile) → Fits n p → domainsIn n p args ≡ accepted r → Fits n r
   unfolding domainsIn
-  domains-keep p args r h e = kept (Fits n) (domainIn n) one-keeps p (split 47 args) r h e
+  domains-keep p args r h e = read-keeps (Fits n) (domainIn n) one-keeps p (split 47 args) h e
 
   fitting-keeps : (p : Profile) (ps : List Float) (t : Float) (r : Profile) → Fits n p → fitting n (withProbs p ps t) ≡ accepted r → Fits n r
   unfolding fitting
@@ -136,9 +101,9 @@ module _ (n : ℕ) where
       go false false true e = let z : withRuntime p ≡ r = cc in rw z at (runtime-fits p h)
       go false false false e = let z : _≡_ {A = ℕ} 0 1 = cc in absurd (omega arith)
 
-  mechanism-keeps : (p : Profile) (s : List ℕ) (r : Profile) → Fits n p → mechanismIn n p s ≡ accepted r → Fits n r
+  mechanism-keeps : (p r : Profile) (s : List ℕ) → Fits n p → mechanismIn n p s ≡ accepted r → Fits n r
   unfolding mechanismIn
-  mechanism-keeps p s r h e = go (isEmpty (trim s) || isSame (trim s) noneName) e
+  mechanism-keeps p r s h e = go (isEmpty (trim s) || isSame (trim s) noneName) e
     where
       go : (b : Bool) → cond b (accepted p) (namedIn n p (trim (before 58 (trim s))) (behind 58 (trim s))) ≡ accepted r → Fits n r
       go true e = let z : p ≡ r = cc in rw z at h
@@ -151,7 +116,7 @@ module _ (n : ℕ) where
     read-fits = go (firstOf (unless (isPopulation n) POPULATION ∷ unless (isText mostBytes s) TEXT ∷ [])) e
       where
         go : (k : ℕ) → checked k (readEach (mechanismIn n) nothing (split 59 s)) ≡ accepted p → Fits n p
-        go zero e = kept (Fits n) (mechanismIn n) mechanism-keeps nothing (split 59 s) p nothing-fits e
+        go zero e = read-keeps (Fits n) (mechanismIn n) mechanism-keeps nothing (split 59 s) nothing-fits e
         go (suc k) e = let z : _≡_ {A = ℕ} 0 1 = cc in absurd (omega arith)
 
     -- no case refuses it
