@@ -11,7 +11,8 @@ use lib.Seq.{take-set-lt, getD-take}
 use borrow.Author.Tests.{lt-ltb, le-ltb}
 use Rattle.bitmap.specs.declared.ReplicaId.{ReplicaId}
 use Rattle.refusals.specs.Numbers.{LAYOUT}
-use Rattle.refusals.specs.Outcome.{Outcome, refused, accepted, checked, outcome, left, andThen}
+use Rattle.refusals.proofs.Outcomes.{is-checked}
+use Rattle.refusals.specs.Outcome.{Outcome, refused, accepted, outcome, left, andThen}
 use Rattle.numerals.specs.Text.{isByte, cut, hasByte, before, behind, split}
 use Rattle.numerals.specs.TextLaws.{cut-le}
 use Rattle.numerals.specs.Read.{readEach}
@@ -101,11 +102,6 @@ first-of (suc n) (suc m) h = ap (λ (l : List ℕ). 0 ∷ l) (first-of n m (le-o
 
 pub no-shards : (n : ℕ) → n ≤ 16 → take {A = ℕ} n (replicate 16 0) ≡ replicate n 0
 no-shards n h = first-of n 16 h
-
--- ---- a number that refuses
-is-checked : {A : Type 0} (k got : ℕ) (o : Outcome A) → got ≡ k → (got ≡ 0 → ⊥) → refused got ≡ checked k o
-is-checked zero got o e h = absurd (h e)
-is-checked (suc k) got o e h = ap refused e
 
 -- ---- the entry, which was lent the words `old`
 module _ (n d total : ℕ) (s old : List ℕ) where

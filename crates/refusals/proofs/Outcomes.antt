@@ -2,15 +2,18 @@
 -- `search outcomes`. Assumes nothing.
 use mathlib.Core.Path.{_≡_, refl, sym, ap, _∙_}
 use Prim.Native.Nat.{ℕ, zero, suc}
-use Rattle.refusals.specs.Outcome.{refused, accepted, outcome, written}
+use Rattle.refusals.specs.Outcome.{Outcome, refused, accepted, checked, outcome, written}
 
 module _ {A : Type 0} (k got : ℕ) where
-  pub is-refused : (a : A) → got ≡ k → (got ≡ 0 → ⊥) → refused got ≡ outcome k a
-  is-refused a e h = go k e
+  pub is-checked : (o : Outcome A) → got ≡ k → (got ≡ 0 → ⊥) → refused got ≡ checked k o
+  is-checked o e h = go k e
     where
-      go : (k : ℕ) → got ≡ k → refused got ≡ outcome k a
+      go : (k : ℕ) → got ≡ k → refused got ≡ checked k o
       go zero e = absurd (h e)
       go (suc k) e = ap refused e
+
+  pub is-refused : (a : A) → got ≡ k → (got ≡ 0 → ⊥) → refused got ≡ outcome k a
+  is-refused a e h = is-checked (accepted a) e h
 
   pub is-accepted : (a b : A) → got ≡ k → got ≡ 0 → b ≡ a → accepted b ≡ outcome k a
   is-accepted a b e z q = rw (sym e ∙ z) (ap accepted q)
