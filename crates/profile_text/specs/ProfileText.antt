@@ -23,7 +23,7 @@ use Rattle.profile_text.specs.declared.Parsed.{Parsed}
 
 -- ---- a profile
 
--- xs, and after it x up to the length k
+-- the first k of xs, and after them x up to the length k
 abbrev pub filled : {A : Type 0} → ℕ → A → List A → List A
 filled k x xs = take k xs ++ replicate (k - length xs) x
 
