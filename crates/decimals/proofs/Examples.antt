@@ -9,9 +9,9 @@ use lib.IntN.{pos, negsuc}
 use lib.Ieee.{Float, fin, round, size, span, climb, odd, units}
 use Rattle.refusals.specs.Outcome.{Outcome, refused, accepted}
 use Rattle.numerals.specs.Quoted.{bytes}
-use Rattle.numerals.specs.Text.{cutBy}
+use Rattle.numerals.specs.Text.{without, cutBy}
 use Rattle.numerals.specs.Whole.{isDigits, spelt}
-use Rattle.decimals.specs.Decimal.{isNegative, unsigned, writtenOf, decimalOf}
+use Rattle.decimals.specs.Decimal.{isNegative, writtenOf, decimalOf}
 
 record Line : Type 0 where
   text : String
@@ -74,5 +74,5 @@ sheet =
     ∷ []
 
 answered : map (λ (l : Line). decimalOf (bytes (l .text))) sheet ≡ map (λ (l : Line). l .says) sheet
-unfolding line sheet decimalOf writtenOf isNegative unsigned cutBy isDigits spelt round size span climb odd units trailingZeros
+unfolding line sheet decimalOf writtenOf isNegative without cutBy isDigits spelt round size span climb odd units trailingZeros
 answered = refl

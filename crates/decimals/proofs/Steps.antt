@@ -1,4 +1,4 @@
--- A sign at the start of a text, and one step of the loop over digits. Assumes nothing.
+-- A minus sign at the start of a text, and one step of the loop over digits. Assumes nothing.
 use mathlib.Core.Path.{_≡_, refl, sym, _∙_}
 use mathlib.Core.Bool.{true, false}
 use mathlib.Core.List.{List, [], _∷_}
@@ -6,17 +6,18 @@ use Prim.Native.Nat.{ℕ, suc, _+_, _-_, _*_, _^_, _≤_, _<_}
 use native.Mathlib.Nat.{mul-le-mul-left}
 use native.Mathlib.Numerals.{add-one}
 use native.Mathlib.Omega.{arith}
-use borrow.Author.Tests.{eq-eqb, ne-eqb, ltb-false}
+use borrow.Author.Tests.{ltb-false}
 use lib.Dec.{eqb, ltb}
 use lib.ListN.{length, getD, drop, drop-of-length-le}
 use lib.Seq.{drop-cons}
 use Rattle.lists.specs.All.{all}
 use Rattle.lists.specs.AllLaws.{all-means}
+use Rattle.numerals.specs.Text.{without}
 use Rattle.numerals.specs.Whole.{isDigit, spelt}
 use Rattle.decimals.specs.Decimal.{isNegative, unsigned}
 use Rattle.decimals.specs.DigitLaws.{ten-pos, digit-range, room-step}
 
--- ---- a sign
+-- ---- a minus sign
 pub negative-none : (s : List ℕ) → length s ≡ 0 → false ≡ isNegative s
 unfolding isNegative
 negative-none [] h = refl
@@ -26,26 +27,6 @@ pub negative-at : (s : List ℕ) → (length s ≡ 0 → ⊥) → eqb (getD s 0 
 unfolding isNegative
 negative-at [] h = absurd (h refl)
 negative-at (b ∷ bs) h = refl
-
-pub sign-none : (s : List ℕ) → length s ≡ 0 → s ≡ unsigned s
-unfolding unsigned
-sign-none [] h = refl
-sign-none (b ∷ bs) h = absurd (omega arith)
-
-pub sign-plus : (s r : List ℕ) → (length s ≡ 0 → ⊥) → getD s 0 0 ≡ 43 → r ≡ drop 1 s → r ≡ unsigned s
-unfolding unsigned
-sign-plus [] r h e q = absurd (h refl)
-sign-plus (b ∷ bs) r h e q = q ∙ sym (simp (eq-eqb b 43 e))
-
-pub sign-minus : (s r : List ℕ) → (length s ≡ 0 → ⊥) → (getD s 0 0 ≡ 43 → ⊥) → getD s 0 0 ≡ 45 → r ≡ drop 1 s → r ≡ unsigned s
-unfolding unsigned
-sign-minus [] r h d e q = absurd (h refl)
-sign-minus (b ∷ bs) r h d e q = q ∙ sym (simp (ne-eqb b 43 d, eq-eqb b 45 e))
-
-pub sign-bare : (s : List ℕ) → (length s ≡ 0 → ⊥) → (getD s 0 0 ≡ 43 → ⊥) → (getD s 0 0 ≡ 45 → ⊥) → s ≡ unsigned s
-unfolding unsigned
-sign-bare [] h d e = absurd (h refl)
-sign-bare (b ∷ bs) h d e = sym (simp (ne-eqb b 43 d, ne-eqb b 45 e))
 
 -- ---- digits
 module _ (i : ℕ) (s : List ℕ) (e : all isDigit s ≡ true) (h : i < length s) where
@@ -77,5 +58,5 @@ module _ (v i : ℕ) (s : List ℕ) {n : ℕ} (inv : n ≡ spelt v (drop i s)) w
 
 -- ---- no letter, no exponent
 pub no-exponent : (u x q : List ℕ) (c : ℕ) → x ≡ drop (c + 1) u → q ≡ unsigned x → ltb c (length u) ≡ false → q ≡ []
-unfolding unsigned
+unfolding without
 no-exponent u x q c e d h = d ∙ rw (e, drop-of-length-le u {i = c + 1} (omega (arith, ltb-false c (length u) h)))

@@ -5,10 +5,10 @@ use Prim.Native.Nat.{ℕ, _+_, _*_, _^_}
 use lib.Dec.{leb, ltb, eqb}
 use lib.Ieee.{Float, binary64, round}
 use lib.ListN.{length, take, drop}
-use Rattle.lists.specs.All.{all}
+use Rattle.lists.specs.All.{all, any}
 use Rattle.refusals.specs.Numbers.{NUMERAL, DIGITS}
 use Rattle.refusals.specs.Outcome.{Outcome, refused, accepted}
-use Rattle.numerals.specs.Text.{cutBy, before, behind}
+use Rattle.numerals.specs.Text.{without, cutBy, before, behind}
 use Rattle.numerals.specs.Whole.{isDigit, isDigits, spelt}
 use Rattle.decimals.specs.declared.Decimal.{Decimal}
 use Rattle.decimals.specs.declared.Decimal.the-variants.{Refused, Value}
@@ -20,10 +20,13 @@ unfoldable pub isNegative : List ℕ → Bool
 isNegative [] = false
 isNegative (b ∷ bs) = eqb b 45
 
+-- + or -
+abbrev pub isSign : ℕ → Bool
+isSign b = eqb b 43 || eqb b 45
+
 -- without a sign at its start
-unfoldable pub unsigned : List ℕ → List ℕ
-unsigned [] = []
-unsigned (b ∷ bs) = cond (eqb b 43 || eqb b 45) bs (b ∷ bs)
+abbrev pub unsigned : List ℕ → List ℕ
+unsigned s = without isSign s
 
 -- e or E
 abbrev pub isE : ℕ → Bool
@@ -50,7 +53,7 @@ writtenOf s = record {
   negative = isNegative s;
   whole = before 46 (mantissa (unsigned s));
   fraction = behind 46 (mantissa (unsigned s));
-  raised = ltb (cutBy isE (unsigned s)) (length (unsigned s));
+  raised = any isE (unsigned s);
   lowers = isNegative (exponent (unsigned s));
   power = unsigned (exponent (unsigned s));
 }

@@ -12,7 +12,7 @@ ghost use Rattle.refusals.specs.Numbers.{DIGITS};
 ghost use Rattle.refusals.specs.Outcome.{refused, accepted};
 ghost use Rattle.numerals.specs.Text.{cutBy};
 ghost use Rattle.numerals.specs.Whole.{isDigit, spelt};
-ghost use Rattle.decimals.specs.Decimal.{isNegative, unsigned, isE, isWellFormed, readOf, decimalOf, decimal};
+ghost use Rattle.decimals.specs.Decimal.{isNegative, isSign, unsigned, isE, isWellFormed, readOf, decimalOf, decimal};
 
 // A double, or the number of the decimal's fault.
 pub enum Decimal {
@@ -151,13 +151,16 @@ fn unsigned(s: &[u8]) -> &[u8]
     if s.len() == 0 {
         return s;
     }
-    if s[0] == b'+' {
-        return numerals::after(s, 1);
-    }
-    if s[0] == b'-' {
+    if is_sign(s[0]) {
         return numerals::after(s, 1);
     }
     s
+}
+
+fn is_sign(b: u8) -> bool
+    ensures { λ r. ⌜ r ≡ isSign b ⌝ }
+{
+    b == b'+' || b == b'-'
 }
 
 // Where the first e or E of s stands, or the length of s.

@@ -8,9 +8,9 @@ use Rattle.bitmap.specs.Mask.{gather}
 use Rattle.refusals.specs.Outcome.{Outcome, refused, accepted}
 use Rattle.refusals.specs.Limits.{isPopulation, isShards}
 use Rattle.numerals.specs.Quoted.{bytes}
-use Rattle.numerals.specs.Text.{isText, cutBy, split}
+use Rattle.numerals.specs.Text.{without, isText, cutBy, split}
 use Rattle.numerals.specs.Read.{readEach}
-use Rattle.numerals.specs.Whole.{isDigits, spelt, unplussed, wholeOf, belowOf, memberOf, memberIn, membersOf}
+use Rattle.numerals.specs.Whole.{isDigits, spelt, wholeOf, belowOf, memberOf, memberIn, membersOf}
 use Rattle.layout_text.specs.LayoutText.{lengthOf, segmentOf, segmentIn, segmentsOf, layoutOf, inputRefusal, tableRefusal, initOf}
 
 -- the population, the data shards, the total, the text, how many words are lent, and what it is read to
@@ -102,6 +102,6 @@ sheet =
     ∷ []
 
 answered : map (λ (l : Line). initOf (l .n) (l .d) (l .total) (l .s) (l .len)) sheet ≡ map (λ (l : Line). l .says) sheet
-unfolding line sheet initOf inputRefusal isPopulation isShards isText layoutOf lengthOf wholeOf isDigits unplussed spelt eachBelow gather segmentsOf
+unfolding line sheet initOf inputRefusal isPopulation isShards isText layoutOf lengthOf wholeOf isDigits without spelt eachBelow gather segmentsOf
     readEach split segmentIn segmentOf cutBy belowOf membersOf memberIn memberOf tableRefusal
 answered = refl

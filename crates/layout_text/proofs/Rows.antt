@@ -14,7 +14,7 @@ use Rattle.refusals.specs.Numbers.{LAYOUT}
 use Rattle.refusals.proofs.Outcomes.{is-checked}
 use Rattle.refusals.specs.Outcome.{Outcome, refused, accepted, outcome, left, andThen}
 use Rattle.numerals.specs.Text.{isByte, cut, hasByte, before, behind, split}
-use Rattle.numerals.specs.TextLaws.{cut-le}
+use Rattle.numerals.specs.TextLaws.{cut-le, any-cut}
 use Rattle.numerals.specs.Read.{readEach}
 use Rattle.numerals.specs.Whole.{belowOf, membersOf, whole, members}
 use Rattle.numerals.specs.declared.Whole.{Whole}
@@ -39,14 +39,14 @@ module _ (n total : ℕ) (s : List ℕ) {c : ℕ} (f : c ≡ cut 58 s) where
 
   pub colon-none : c ≡ length s → refused LAYOUT ≡ segmentOf n total s
   unfolding segmentOf
-  colon-none e = rw (le-ltb (cut 58 s) (length s) (le-of-eq (sym e ∙ f)))
+  colon-none e = rw (any-cut (isByte 58) s, le-ltb (cut 58 s) (length s) (le-of-eq (sym e ∙ f)))
 
   module _ (g : c ≡ length s → ⊥) where
     pub colon-inside : c < length s
     colon-inside = omega (arith, colon-le)
 
     has : hasByte 58 s ≡ true
-    has = lt-ltb (cut 58 s) (length s) (rw f at colon-inside)
+    has = any-cut (isByte 58) s ∙ lt-ltb (cut 58 s) (length s) (rw f at colon-inside)
 
     name : {t : List ℕ} → t ≡ take c s → belowOf n t ≡ belowOf n (before 58 s)
     name u = rw (u, f)

@@ -2,17 +2,17 @@
 -- through. Assumes nothing.
 use mathlib.Core.Path.{_≡_, refl, sym, ap, subst, _∙_}
 use mathlib.Core.Logic.{_↔_, _⊎_, inl, inr, ⊎-elim}
-use mathlib.Core.Bool.{Bool, true, false, cond, _&&_, and-eq-true-iff}
+use mathlib.Core.Bool.{Bool, true, false, cond, _&&_, _||_, and-eq-true-iff}
 use mathlib.Core.List.{List, [], _∷_}
-use Prim.Native.Nat.{ℕ, zero, suc, _*_, _%_, _≤_, _<_, zero-le, suc-le-suc}
-use native.Mathlib.Nat.{div-le-self, not-suc-le-zero, le-of-suc-le-suc}
+use Prim.Native.Nat.{ℕ, zero, suc, _*_, _%_, _≤_, _<_}
+use native.Mathlib.Nat.{div-le-self}
 use native.Mathlib.Decide.{ℕ-discrete, decLt}
 use native.Mathlib.Omega.{arith}
 use lib.Bits.{bitOr}
 use lib.Dec.{leb, eqb}
 use lib.ListN.{length, take, set, getD, replicate, length-set, length-replicate, getD-replicate, List·getD-eq-default}
 use lib.Seq.{length-take-le, getD-set-same, getD-set-other}
-use borrow.Author.Tests.{leb-true, le-leb, ltb-false, le-ltb, eqb-true, eq-eqb, ne-eqb, not-false}
+use borrow.Author.Tests.{leb-true, le-leb, eqb-true, eq-eqb, ne-eqb, not-false}
 use Rattle.lists.specs.All.{all}
 use Rattle.lists.specs.AllLaws.{all-means}
 use Rattle.lists.specs.BelowLaws.{each-below-length, each-below-all}
@@ -23,10 +23,10 @@ use Rattle.refusals.specs.FirstLaws.{none-holds}
 use Rattle.refusals.specs.Outcome.{Outcome, refused, accepted, checked, outcome, andThen}
 use Rattle.refusals.specs.Limits.{isPopulation, isShards, isRow}
 use Rattle.refusals.specs.LimitLaws.{population-means, shards-means}
-use Rattle.numerals.specs.Text.{isText, isEmpty, cutBy, isByte, cut, hasByte, before, behind, split}
+use Rattle.numerals.specs.Text.{without, isText, isEmpty, isByte, cut, hasByte, before, behind, split}
 use Rattle.numerals.specs.TextLaws.{PartOf, cut-le}
 use Rattle.numerals.specs.ReadLaws.{read-keeps, read-refused}
-use Rattle.numerals.specs.Whole.{isDigits, unplussed, wholeOf, belowOf, membersOf}
+use Rattle.numerals.specs.Whole.{isDigits, wholeOf, belowOf, membersOf}
 use Rattle.numerals.specs.WholeLaws.{below-limit, members-below}
 use Rattle.layout_text.specs.LayoutText.{share, runAt, runsOf, lengthOf, segmentOf, segmentIn, segmentsOf, orSegments, layoutOf, mostBytes, inputRefusal, tableRefusal, initOf}
 
@@ -56,7 +56,7 @@ fitting n d total s {k} e = go (isEmpty s) refl (wholeOf s) refl e
     go false q (accepted v) w e = pick v w (leb (share n total) v && leb v d) refl e
 
 empty-unread : (k : ℕ) → wholeOf [] ≡ accepted k → ⊥
-unfolding wholeOf isDigits unplussed
+unfolding wholeOf isDigits without
 empty-unread k e = let z : _≡_ {A = ℕ} 0 1 = cc in absurd (omega arith)
 
 given : (n d total : ℕ) (s : List ℕ) (k : ℕ) → Fitting n d total s k → lengthOf n d total s ≡ accepted k
@@ -111,16 +111,14 @@ segment-row n total s {r} {m} e =
 -- ---- a text without a colon
 
 -- what begins a text without the byte x is without it
-none-in : (x k : ℕ) (s : List ℕ) → length s ≤ cut x s → length (take k s) ≤ cut x (take k s)
-unfolding cutBy
-none-in x zero s h = zero-le
-none-in x (suc k) [] h = zero-le
+none-in : (x k : ℕ) (s : List ℕ) → hasByte x s ≡ false → hasByte x (take k s) ≡ false
+none-in x zero s h = refl
+none-in x (suc k) [] h = refl
 none-in x (suc k) (b ∷ bs) h = go (eqb b x) h (none-in x k bs)
   where
-    go : (t : Bool) → suc (length bs) ≤ cond t 0 (suc (cut x bs)) → (length bs ≤ cut x bs → length (take k bs) ≤ cut x (take k bs))
-        → suc (length (take k bs)) ≤ cond t 0 (suc (cut x (take k bs)))
-    go true q ih = absurd (not-suc-le-zero q)
-    go false q ih = suc-le-suc (ih (le-of-suc-le-suc q))
+    go : (t : Bool) → (t || hasByte x bs) ≡ false → (hasByte x bs ≡ false → hasByte x (take k bs) ≡ false) → (t || hasByte x (take k bs)) ≡ false
+    go true q ih = q
+    go false q ih = ih q
 
 module _ (n total : ℕ) (s : List ℕ) (h : hasByte 58 s ≡ false) where
   first-part : PartOf s 0 47 (before 47 s)
@@ -128,7 +126,7 @@ module _ (n total : ℕ) (s : List ℕ) (h : hasByte 58 s ≡ false) where
 
   first-refused : (rows : List ℕ) → segmentIn n total rows (before 47 s) ≡ refused LAYOUT
   unfolding segmentIn segmentOf
-  first-refused rows = rw (le-ltb (cut 58 (before 47 s)) (length (before 47 s)) (none-in 58 (cut 47 s) s (ltb-false (cut 58 s) (length s) h)))
+  first-refused rows = rw (none-in 58 (cut 47 s) s h)
 
   no-segments : segmentsOf n total s ≡ refused LAYOUT
   unfolding segmentsOf

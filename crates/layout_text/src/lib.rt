@@ -22,7 +22,7 @@ pub enum Init {
 }
 
 // A segment: a replica and its shards, or the number of the first fault.
-pub enum Segment {
+enum Segment {
     Refused(u8),
     Row(ReplicaId, u64),
 }

@@ -7,9 +7,9 @@ use Prim.Native.String.{String}
 use lib.ListN.{replicate}
 use Rattle.refusals.specs.Outcome.{Outcome, refused, accepted}
 use Rattle.numerals.specs.Quoted.{bytes}
-use Rattle.numerals.specs.Text.{isText, trimStart, trimEnd, trim, split}
+use Rattle.numerals.specs.Text.{without, isText, trimStart, trimEnd, trim, split}
 use Rattle.numerals.specs.Read.{readEach}
-use Rattle.numerals.specs.Whole.{isDigits, spelt, unplussed, wholeOf, belowOf, memberOf, memberIn, membersOf}
+use Rattle.numerals.specs.Whole.{isDigits, spelt, wholeOf, belowOf, memberOf, memberIn, membersOf}
 
 abbrev Line : Type 0
 Line = String × Outcome ℕ
@@ -37,7 +37,7 @@ wholes =
     ∷ []
 
 whole-numbers : Agrees wholeOf wholes
-unfolding wholes isDigits spelt unplussed wholeOf
+unfolding wholes isDigits spelt without wholeOf
 whole-numbers = refl
 
 -- ---- members below 3, trimmed, and then not
@@ -55,11 +55,11 @@ trimmed =
     ∷ []
 
 members-trimmed : Agrees (membersOf true 3) trimmed
-unfolding trimmed isDigits spelt unplussed wholeOf belowOf memberOf memberIn membersOf readEach split trim trimStart trimEnd
+unfolding trimmed isDigits spelt without wholeOf belowOf memberOf memberIn membersOf readEach split trim trimStart trimEnd
 members-trimmed = refl
 
 members-bare : Agrees (membersOf false 3) ((" 0", refused 7) ∷ ("0 ,2", refused 7) ∷ ("0,2", accepted 5) ∷ [])
-unfolding isDigits spelt unplussed wholeOf belowOf memberOf memberIn membersOf readEach split
+unfolding isDigits spelt without wholeOf belowOf memberOf memberIn membersOf readEach split
 members-bare = refl
 
 -- ---- blanks: 9 to 13 and 32 go, 8, 14, 28 and 31 stay, and those inside

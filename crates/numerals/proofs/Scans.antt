@@ -13,7 +13,7 @@ use Rattle.lists.specs.All.{all}
 use Rattle.bitmap.specs.Mask.{withBit}
 use Rattle.refusals.specs.Numbers.{NUMERAL}
 use Rattle.refusals.specs.Outcome.{Outcome, refused, accepted}
-use Rattle.numerals.specs.Text.{isBlank, trimStart, trimEnd, trim, cutBy, isSame}
+use Rattle.numerals.specs.Text.{without, isBlank, trimStart, trimEnd, trim, cutBy, isSame}
 use Rattle.numerals.specs.Whole.{isDigit, isDigits, spelt, unplussed, wholeOf, memberOf, memberIn, whole}
 use Rattle.numerals.specs.WholeLaws.{below-limit}
 use Rattle.numerals.specs.declared.Whole.{Whole}
@@ -124,21 +124,21 @@ same-lengths (x ∷ xs) (y ∷ ys) h = go (eqb x y) (same-lengths xs ys (λ e. h
     go true e = e
     go false e = refl
 
--- ---- a + at the start
-pub plus-none : (s : List ℕ) → length s ≡ 0 → s ≡ unplussed s
-unfolding unplussed
-plus-none [] h = refl
-plus-none (b ∷ bs) h = absurd (omega arith)
+-- ---- the first byte, where it passes a test
+pub without-none : (p : ℕ → Bool) (s : List ℕ) → length s ≡ 0 → s ≡ without p s
+unfolding without
+without-none p [] h = refl
+without-none p (b ∷ bs) h = absurd (omega arith)
 
-pub plus-taken : (s r : List ℕ) → (length s ≡ 0 → ⊥) → getD s 0 0 ≡ 43 → r ≡ drop 1 s → r ≡ unplussed s
-unfolding unplussed
-plus-taken [] r h e q = absurd (h refl)
-plus-taken (b ∷ bs) r h e q = q ∙ sym (simp (eq-eqb b 43 e))
+pub without-first : (p : ℕ → Bool) (s : List ℕ) {r : List ℕ} → (length s ≡ 0 → ⊥) → p (getD s 0 0) ≡ true → r ≡ drop 1 s → r ≡ without p s
+unfolding without
+without-first p [] h e q = absurd (h refl)
+without-first p (b ∷ bs) h e q = q ∙ rw e
 
-pub plus-bare : (s : List ℕ) → (length s ≡ 0 → ⊥) → (getD s 0 0 ≡ 43 → ⊥) → s ≡ unplussed s
-unfolding unplussed
-plus-bare [] h e = absurd (h refl)
-plus-bare (b ∷ bs) h e = sym (simp (ne-eqb b 43 e))
+pub without-kept : (p : ℕ → Bool) (s : List ℕ) → (length s ≡ 0 → ⊥) → p (getD s 0 0) ≡ false → s ≡ without p s
+unfolding without
+without-kept p [] h e = absurd (h refl)
+without-kept p (b ∷ bs) h e = rw e
 
 -- ---- a whole number: v is what the digits before i spell
 -- what the digits that are left come to

@@ -5,18 +5,14 @@ use mathlib.Core.List.{List, [], _∷_, _++_}
 use Prim.Native.Nat.{ℕ}
 use lib.Dec.{eqb}
 use borrow.Author.Tests.{eqb-true}
-use Rattle.lists.specs.All.{any, AllOf}
-use Rattle.numerals.specs.Text.{isByte, push, split}
+use Rattle.lists.specs.All.{AllOf}
+use Rattle.numerals.specs.Text.{hasByte, push, split}
 
 -- parts with an x between each and the next
 unfoldable pub join : ℕ → List (List ℕ) → List ℕ
 join x [] = []
 join x (p ∷ []) = p
 join x (p ∷ (q ∷ qs)) = p ++ (x ∷ join x (q ∷ qs))
-
--- x does not stand in it
-abbrev pub Without : ℕ → List ℕ → Type 0
-Without x p = any (isByte x) p ≡ false
 
 push-join : (x b : ℕ) (ps : List (List ℕ)) → join x (push b ps) ≡ b ∷ join x ps
 unfolding join
@@ -53,12 +49,12 @@ joined x (b ∷ bs) = go (eqb b x) refl (joined x bs)
     go true e ih = next-join x (split x bs) (some-parts x bs) ∙ rw (ih, eqb-true b x e)
     go false e ih = push-join x b (split x bs) ∙ rw ih
 
-pub apart : (x : ℕ) (s : List ℕ) → AllOf (Without x) (split x s)
+pub apart : (x : ℕ) (s : List ℕ) → AllOf (λ p. hasByte x p ≡ false) (split x s)
 unfolding split
 apart x [] = (refl, tt)
 apart x (b ∷ bs) = go (eqb b x) refl (split x bs) (apart x bs)
   where
-    go : (t : Bool) → eqb b x ≡ t → (ps : List (List ℕ)) → AllOf (Without x) ps → AllOf (Without x) (cond t ([] ∷ ps) (push b ps))
+    go : (t : Bool) → eqb b x ≡ t → (ps : List (List ℕ)) → AllOf (λ p. hasByte x p ≡ false) ps → AllOf (λ p. hasByte x p ≡ false) (cond t ([] ∷ ps) (push b ps))
     go true e ps h = (refl, h)
     go false e [] h = (rw e, tt)
     go false e (p ∷ ps) h = (rw e (h .0), h .1)

@@ -4,7 +4,7 @@ use mathlib.Core.List.{List, [], _∷_, reverse}
 use Prim.Native.Nat.{ℕ, suc, _+_}
 use lib.Dec.{leb, ltb, eqb}
 use lib.ListN.{length, take, drop}
-use Rattle.lists.specs.All.{all}
+use Rattle.lists.specs.All.{all, any}
 
 -- a byte below 128
 abbrev pub isAscii : ℕ → Bool
@@ -46,6 +46,11 @@ trim s = trimEnd (trimStart s)
 
 -- ---- parts
 
+-- without its first byte, where that passes a test
+unfoldable pub without : (ℕ → Bool) → List ℕ → List ℕ
+without p [] = []
+without p (b ∷ bs) = cond (p b) bs (b ∷ bs)
+
 -- how many bytes stand before the first that passes a test: all of them where none does
 unfoldable pub cutBy : (ℕ → Bool) → List ℕ → ℕ
 cutBy p [] = 0
@@ -61,7 +66,7 @@ cut x s = cutBy (isByte x) s
 
 -- x stands in it
 abbrev pub hasByte : ℕ → List ℕ → Bool
-hasByte x s = ltb (cut x s) (length s)
+hasByte x s = any (isByte x) s
 
 -- what stands before the first x, and what stands after it: all of it, and nothing, where there is none
 abbrev pub before : ℕ → List ℕ → List ℕ

@@ -1,16 +1,18 @@
 -- What the parts of a split text are, and how a reader goes through them. Assumes nothing.
-use mathlib.Core.Path.{_≡_, refl, ap, _∙_}
-use mathlib.Core.Bool.{Bool, true, false, cond}
+use mathlib.Core.Path.{_≡_, refl, sym, ap, _∙_}
+use mathlib.Core.Bool.{Bool, true, false, cond, _||_}
 use mathlib.Core.List.{List, [], _∷_}
 use mathlib.Core.Logic.{⊎-elim}
 use Prim.Native.Nat.{ℕ, suc, _+_, _≤_, _<_, zero-le, suc-le-suc}
+use native.Mathlib.Decide.{decLt}
 use native.Mathlib.Omega.{arith}
 use native.Mathlib.Numerals.{add-one}
 use native.Mathlib.Nat.{le-refl, lt-irrefl, eq-or-lt-of-le}
-use lib.Dec.{eqb}
+use lib.Dec.{eqb, ltb}
 use lib.ListN.{length, drop, take, length-drop}
 use lib.Seq.{take-length, length-take-le, drop-drop}
-use borrow.Author.Tests.{eq-eqb, ne-eqb}
+use borrow.Author.Tests.{lt-ltb, le-ltb, eq-eqb, ne-eqb}
+use Rattle.lists.specs.All.{any}
 use Rattle.numerals.specs.Text.{cutBy, isByte, cut, push, split}
 
 pick-le : (t : Bool) (k n : ℕ) → k ≤ n → cond t 0 (suc k) ≤ suc n
@@ -21,6 +23,23 @@ pub cut-le : (p : ℕ → Bool) (s : List ℕ) → cutBy p s ≤ length s
 unfolding cutBy
 cut-le p [] = le-refl 0
 cut-le p (b ∷ bs) = pick-le (p b) (cutBy p bs) (length bs) (cut-le p bs)
+
+suc-ltb : (a b : ℕ) → ltb a b ≡ ltb (suc a) (suc b)
+suc-ltb a b = go (decLt a b)
+  where
+    go : Dec (a < b) → ltb a b ≡ ltb (suc a) (suc b)
+    go (yes h) = rw (lt-ltb a b h, lt-ltb (suc a) (suc b) (suc-le-suc h))
+    go (no h) = rw (le-ltb a b (omega arith), le-ltb (suc a) (suc b) (omega arith))
+
+-- a byte that passes stands where the text has not ended
+pub any-cut : (p : ℕ → Bool) (s : List ℕ) → any p s ≡ ltb (cutBy p s) (length s)
+unfolding cutBy
+any-cut p [] = refl
+any-cut p (b ∷ bs) = go (p b) (any-cut p bs)
+  where
+    go : (t : Bool) → any p bs ≡ ltb (cutBy p bs) (length bs) → (t || any p bs) ≡ ltb (cond t 0 (suc (cutBy p bs))) (suc (length bs))
+    go true e = sym (lt-ltb 0 (suc (length bs)) (omega arith))
+    go false e = e ∙ suc-ltb (cutBy p bs) (length bs)
 
 -- ---- the last part, and a part with more after it
 

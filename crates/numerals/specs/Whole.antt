@@ -2,12 +2,12 @@
 use mathlib.Core.Bool.{Bool, cond, _&&_, not}
 use mathlib.Core.List.{List, [], _∷_}
 use Prim.Native.Nat.{ℕ, _+_, _-_, _*_}
-use lib.Dec.{leb, ltb, eqb}
+use lib.Dec.{leb, ltb}
 use Rattle.lists.specs.All.{all}
 use Rattle.bitmap.specs.Mask.{withBit}
 use Rattle.refusals.specs.Numbers.{NUMERAL, MEMBER}
 use Rattle.refusals.specs.Outcome.{Outcome, refused, accepted, andThen}
-use Rattle.numerals.specs.Text.{isEmpty, trim, split}
+use Rattle.numerals.specs.Text.{isEmpty, trim, without, isByte, split}
 use Rattle.numerals.specs.Read.{readEach}
 use Rattle.numerals.specs.declared.Whole.{Whole}
 use Rattle.numerals.specs.declared.Whole.the-variants as Wholes
@@ -31,9 +31,8 @@ spelt v (b ∷ bs) = spelt (v * 10 + (b - 48)) bs
 -- ---- a whole number
 
 -- without a + at its start
-unfoldable pub unplussed : List ℕ → List ℕ
-unplussed [] = []
-unplussed (b ∷ bs) = cond (eqb b 43) bs (b ∷ bs)
+abbrev pub unplussed : List ℕ → List ℕ
+unplussed s = without (isByte 43) s
 
 -- an optional + and one or more digits, of a value of at most 255
 unfoldable pub wholeOf : List ℕ → Outcome ℕ

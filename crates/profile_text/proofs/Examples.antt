@@ -14,10 +14,10 @@ use Rattle.floats.specs.Floats.{plusZero, one, isProbability}
 use Rattle.profiles.specs.declared.Profile.{Profile}
 use Rattle.profiles.specs.Profile.{isThreshold, probsFit}
 use Rattle.numerals.specs.Quoted.{bytes}
-use Rattle.numerals.specs.Text.{isText, isSame, trimStart, trimEnd, trim, cutBy, split}
+use Rattle.numerals.specs.Text.{without, isText, isSame, trimStart, trimEnd, trim, cutBy, split}
 use Rattle.numerals.specs.Read.{readEach}
-use Rattle.numerals.specs.Whole.{isDigits, spelt, unplussed, wholeOf, belowOf, memberOf, memberIn, membersOf}
-use Rattle.decimals.specs.Decimal.{isNegative, unsigned, writtenOf, decimalOf}
+use Rattle.numerals.specs.Whole.{isDigits, spelt, wholeOf, belowOf, memberOf, memberIn, membersOf}
+use Rattle.decimals.specs.Decimal.{isNegative, writtenOf, decimalOf}
 use Rattle.profile_text.specs.ProfileText.{filled, nothing, withDomain, withWords, withRuntime, domainIn, domainsIn, decimalIn, decimalsOf, thresholdOf, fitting, probsIn, namedIn, mechanismIn, mechanismsOf, profileOf}
 
 abbrev minusZero : Float
@@ -156,6 +156,6 @@ sheet =
 
 answered : map (λ (l : Line). profileOf (l .n) (l .text)) sheet ≡ map (λ (l : Line). l .says) sheet
 unfolding line profile bare grouped likely times repeated sheet profileOf mechanismsOf mechanismIn namedIn domainsIn domainIn probsIn decimalsOf decimalIn thresholdOf fitting nothing
-    withDomain withWords withRuntime readEach split trim trimStart trimEnd cutBy isText isSame isDigits spelt unplussed wholeOf belowOf memberOf memberIn membersOf
-    decimalOf writtenOf isNegative unsigned isPopulation probsFit isThreshold isProbability isNan lt le round size units odd span climb trailingZeros
+    withDomain withWords withRuntime readEach split trim trimStart trimEnd cutBy isText isSame isDigits spelt without wholeOf belowOf memberOf memberIn membersOf
+    decimalOf writtenOf isNegative isPopulation probsFit isThreshold isProbability isNan lt le round size units odd span climb trailingZeros
 answered = refl

@@ -16,14 +16,13 @@ module _ {A : Type 0} where
   outcome k a = checked k (accepted a)
 
   -- what lent memory holds at exit: what is written, or where the input is refused what it held
-  abbrev pub written : ℕ → A → A → A
-  written zero after before = after
-  written (suc k) after before = before
-
-  -- the same of an outcome
   abbrev pub left : Outcome A → A → A
   left (refused k) before = before
   left (accepted after) before = after
+
+  -- the same of the number that refuses, or 0
+  abbrev pub written : ℕ → A → A → A
+  written k after before = left (outcome k after) before
 
 -- the next step, which has the value of the one before, where that is not refused
 abbrev pub andThen : {A B : Type 0} → Outcome A → (A → Outcome B) → Outcome B

@@ -20,7 +20,7 @@ fn main() {
     profile(b"probs:x@1e23");
     profile(b"none; runtime:x");
     profile(b"domains:0/1");
-    profile(b"lifts");
+    profile(b"unknown");
 }
 
 // A layout text of 3 replicas, 4 data shards and 6 in all: the rows as masks.

@@ -2,7 +2,7 @@
 use mathlib.Core.Path.{_∙_}
 use borrow.Author.Needs.{needs}
 use Rattle.numerals.specs.Text.{isByte}
-use Rattle.numerals.specs.TextLaws.{cut-le}
+use Rattle.numerals.specs.TextLaws.{cut-le, any-cut}
 use Rattle.decimals.specs.Decimal.{isE, writtenOf, decimalOf}
 use Rattle.decimals.proofs.Steps.{no-exponent}
 use Rattle.decimals.proofs.read_decimal.Statement.{statement}
@@ -31,4 +31,4 @@ read-decimal-spec =
     let x = p .before in
     let u = x .before .before in
     c .read-parts .ensures
-    ∙ rw (c .before .is-negative2 .ensures, n .is-negative .ensures, q .unsigned2 .ensures, q .before .past2 .ensures, q .before .before .upto2 .ensures, p .find .ensures, x .past .ensures, x .before .upto .ensures, u .find-e .ensures, u .before .unsigned .ensures)))
+    ∙ rw (c .before .is-negative2 .ensures, n .is-negative .ensures, q .unsigned2 .ensures, q .before .past2 .ensures, q .before .before .upto2 .ensures, p .find .ensures, x .past .ensures, x .before .upto .ensures, u .find-e .ensures, u .before .unsigned .ensures, any-cut isE)))
