@@ -1,0 +1,2 @@
+-- Layouts of loads, and what they mean.
+pub mod Layout

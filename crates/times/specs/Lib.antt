@@ -1,0 +1,2 @@
+-- Predicted reply times.
+pub mod Times
