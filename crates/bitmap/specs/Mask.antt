@@ -1,7 +1,7 @@
 -- A set of small numbers as a mask: bit s of the number m says whether s is a member. A mask is a natural number of any width.
 -- Assumes nothing.
 use Prim.Native.Nat.{ℕ, zero, suc, _+_, _-_, _/_, _%_, _^_}
-use mathlib.Core.Bool.{Bool}
+use mathlib.Core.Bool.{Bool, cond}
 use lib.Dec.{eqb, ltb}
 use lib.Bits.{bitOr}
 
@@ -34,6 +34,11 @@ countIn (suc k) (suc m) = suc m % 2 + countIn k (suc m / 2)
 unfoldable pub count : ℕ → ℕ
 unfolding countIn
 count m = countIn m m
+
+-- the numbers below k that pass the test
+unfoldable pub maskBelow : (ℕ → Bool) → ℕ → ℕ
+maskBelow f zero = 0
+maskBelow f (suc k) = cond (f k) (withBit (maskBelow f k) k) (maskBelow f k)
 
 -- the members f 0, f 1, .. f (k - 1)
 unfoldable pub gather : (ℕ → ℕ) → ℕ → ℕ

@@ -1,15 +1,17 @@
--- What is put together of members below a width is a mask below it: unions, and runs modulo the width. Assumes nothing.
-use mathlib.Core.Path.{_≡_}
-use mathlib.Core.Bool.{true}
-use Prim.Native.Nat.{ℕ, _+_, _%_, _^_, _≤_, _<_}
-use native.Mathlib.Nat.{mod-lt}
+-- What is put together of members below a width is a mask below it: unions, runs modulo the width, and the numbers below it that pass a test. Assumes nothing.
+use mathlib.Core.Path.{_≡_, refl, sym, ap, _∙_}
+use mathlib.Core.Logic.{⊎-elim}
+use mathlib.Core.Bool.{Bool, true, false, cond}
+use Prim.Native.Nat.{ℕ, zero, suc, _+_, _%_, _^_, _≤_, _<_}
+use native.Mathlib.Nat.{mod-lt, pow-suc, le-refl, not-suc-le-zero, le-of-suc-le-suc, eq-or-lt-of-le}
 use native.Mathlib.Decide.{ℕ-discrete}
 use native.Mathlib.Omega.{arith}
 use lib.Bits.{bitOr, or-lt}
 use lib.Pow.{pow-pos, pow-lt}
-use borrow.Author.Tests.{ltb-true, lt-ltb}
-use Rattle.bitmap.specs.Mask.{bit, isBelow, withBit, runModulo}
-use Rattle.bitmap.specs.MaskLaws.{bit-lt, below-means}
+use borrow.Author.Tests.{ltb-true, lt-ltb, eq-eqb, ne-eqb}
+use lib.Dec.{eqb}
+use Rattle.bitmap.specs.Mask.{bit, hasBit, isBelow, withBit, maskBelow, runModulo}
+use Rattle.bitmap.specs.MaskLaws.{bit-lt, bit-with, bit-same, bit-other, below-means}
 use Rattle.bitmap.specs.RunLaws.{Among, gather-means}
 
 module _ (w : ℕ) where
@@ -31,3 +33,34 @@ module _ (w : ℕ) where
           let r : Among (λ (i : ℕ). (a + i) % w) k s = gather-means (λ (i : ℕ). (a + i) % w) s k .0 e in
           absurd (omega (arith, r .here, mod-lt (a + r .place) p))
       go s h (no e) = omega (arith, bit-lt (runModulo w a k) s)
+
+-- the numbers below k that pass a test: s is a member exactly if it is below k and passes
+module _ (f : ℕ → Bool) where
+  pub mask-below-lt : (k : ℕ) → maskBelow f k < 2 ^ k
+  unfolding maskBelow
+  mask-below-lt zero = omega arith
+  mask-below-lt (suc k) = go (f k) (mask-below-lt k)
+    where
+      go : (b : Bool) → maskBelow f k < 2 ^ k → cond b (withBit (maskBelow f k) k) (maskBelow f k) < 2 ^ suc k
+      go true h = or-lt (suc k) (maskBelow f k) (2 ^ k) (omega (arith, pow-suc 2 k, pow-pos k)) (pow-lt (le-refl (suc k)))
+      go false h = omega (arith, pow-suc 2 k, pow-pos k)
+
+  pub mask-below-bit : (k s : ℕ) → s < k → hasBit (maskBelow f k) s ≡ f s
+  unfolding maskBelow
+  mask-below-bit zero s h = absurd (not-suc-le-zero h)
+  mask-below-bit (suc k) s h =
+      ⊎-elim (λ (q : s ≡ k). ap (hasBit (cond (f k) (withBit (maskBelow f k) k) (maskBelow f k))) q ∙ here (f k) ∙ ap f (sym q)) (λ (l : s < k). there (f k) l ∙ mask-below-bit k s l)
+      (eq-or-lt-of-le (le-of-suc-le-suc h))
+    where
+      top : bit (maskBelow f k) k ≡ 0
+      top = below-means k (maskBelow f k) .0 (lt-ltb (maskBelow f k) (2 ^ k) (mask-below-lt k)) k (le-refl k)
+
+      here : (b : Bool) → hasBit (cond b (withBit (maskBelow f k) k) (maskBelow f k)) k ≡ b
+      here true = eq-eqb (bit (withBit (maskBelow f k) k) k) 1 (omega (arith, bit-with (maskBelow f k) k k, bit-same k, top))
+      here false = ne-eqb (bit (maskBelow f k) k) 1 (λ (e : bit (maskBelow f k) k ≡ 1). omega (arith, top))
+
+      there : (b : Bool) → s < k → hasBit (cond b (withBit (maskBelow f k) k) (maskBelow f k)) s ≡ hasBit (maskBelow f k) s
+      there true l =
+          let e : bit (withBit (maskBelow f k) k) s ≡ bit (maskBelow f k) s = omega (arith, bit-with (maskBelow f k) k s, bit-other k s (λ (e : s ≡ k). omega arith)) in
+          ap (λ (x : ℕ). eqb x 1) e
+      there false l = refl

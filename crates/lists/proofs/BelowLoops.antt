@@ -4,14 +4,14 @@
 use mathlib.Core.Path.{_≡_, refl, sym, ap, _∙_}
 use mathlib.Core.Bool.{Bool, true, false}
 use mathlib.Core.List.{List, [], _∷_, _++_, append-nil, append-assoc}
-use Prim.Native.Nat.{ℕ, suc, _+_, _≤_, _<_}
+use Prim.Native.Nat.{ℕ, suc, _+_, _-_, _≤_, _<_}
 use native.Mathlib.Nat.{le-refl, le-trans}
 use native.Mathlib.Decide.{le-ind}
 use native.Mathlib.Numerals.{add-one}
 use native.Mathlib.Omega.{arith}
 use lib.ListN.{length, take, set, length-append, length-drop}
 use lib.Seq.{set-append-seam, drop-cons, take-suc-set}
-use Rattle.lists.specs.Below.{thoseBelow, eachBelow, front}
+use Rattle.lists.specs.Below.{thoseBelow, runFrom, eachBelow, front}
 
 -- ---- one list at the front of another
 module _ (xs l : List ℕ) where
@@ -97,3 +97,23 @@ module _ {A : Type 0} (f : ℕ → A) where
 
     pub each-done : (n : ℕ) → k ≤ n → n ≤ k → take n w ≡ eachBelow f n
     each-done n h g = let q : k ≡ n = omega arith in rw q at written
+
+-- ---- a loop up to m that goes on while the test passes: what is left of the run ends where the whole does
+module _ (f : ℕ → Bool) (m k : ℕ) where
+  abbrev pub Running : Type 0
+  Running = runFrom f (m - k) k ≡ runFrom f m 0
+
+  here : k < m → m - k ≡ suc (m - (k + 1))
+  here h = omega arith
+
+  pub run-on : (r : Bool) → k < m → Running → r ≡ f k → r ≡ true → runFrom f (m - (k + 1)) (k + 1) ≡ runFrom f m 0
+  unfolding runFrom
+  run-on r h e q t = rw (add-one) (sym (ap (λ (j : ℕ). runFrom f j k) (here h) ∙ rw (sym q ∙ t, add-one)) ∙ e)
+
+  pub run-stop : (r : Bool) → k < m → Running → r ≡ f k → r ≡ false → k ≡ runFrom f m 0
+  unfolding runFrom
+  run-stop r h e q t = sym (ap (λ (j : ℕ). runFrom f j k) (here h) ∙ rw (sym q ∙ t)) ∙ e
+
+  pub run-done : m ≤ k → Running → k ≡ runFrom f m 0
+  unfolding runFrom
+  run-done h e = let z : m - k ≡ 0 = omega arith in sym (ap (λ (j : ℕ). runFrom f j k) z) ∙ e

@@ -1,8 +1,8 @@
 -- What the tests and statements over a whole list say of its elements. Assumes nothing.
-use mathlib.Core.Path.{_≡_, refl, sym, ap}
-use mathlib.Core.Logic.{_↔_}
+use mathlib.Core.Path.{_≡_, refl, sym, ap, subst}
+use mathlib.Core.Logic.{_↔_, _⊎_, inl, inr}
 use mathlib.Core.Bool.{Bool, true, false, _||_, and-eq-true-iff, true≢false}
-use mathlib.Core.List.{List, [], _∷_, _++_}
+use mathlib.Core.List.{List, [], _∷_, _++_, List·Memᴰ, List·Memᴰ·not-nil, List·Memᴰ·cases-cons}
 use Prim.Native.Nat.{ℕ, zero, suc, _<_, suc-le-suc}
 use native.Mathlib.Nat.{zero-lt-suc, not-suc-le-zero, le-of-suc-le-suc}
 use lib.ListN.{length, getD}
@@ -64,6 +64,15 @@ module _ {A : Type 0} (F : A → Type 0) (d : A) where
 
   pub all-of-means : (xs : List A) → AllOf F xs ↔ ((k : ℕ) → k < length xs → F (getD xs k d))
   all-of-means xs = (placed xs, gathered xs)
+
+-- and so of whatever is in the list
+pub all-of-listed : {A : Type 0} (F : A → Type 0) (xs : List A) → AllOf F xs → (y : A) → List·Memᴰ y xs → F y
+all-of-listed F [] a y m = absurd (List·Memᴰ·not-nil m)
+all-of-listed {A} F (x ∷ xs) a y m = go (all-of-listed F xs (a .1) y) (List·Memᴰ·cases-cons m)
+  where
+    go : (List·Memᴰ y xs → F y) → (y ≡ x) ⊎ List·Memᴰ y xs → F y
+    go ih (inl e) = subst F (sym e) (a .0)
+    go ih (inr r) = ih r
 
 -- what holds of each element gives what follows from it
 pub all-of-map : {A : Type 0} {P Q : A → Type 0} → ((x : A) → P x → Q x) → (xs : List A) → AllOf P xs → AllOf Q xs

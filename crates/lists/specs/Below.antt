@@ -14,6 +14,15 @@ unfoldable pub thoseBelow : (ℕ → Bool) → ℕ → List ℕ
 thoseBelow f zero = []
 thoseBelow f (suc k) = thoseBelow f k ++ cond (f k) (k ∷ []) []
 
+-- the first number from k on that fails the test, or, if m of them pass, the one after these
+unfoldable pub runFrom : (ℕ → Bool) → ℕ → ℕ → ℕ
+runFrom f zero k = k
+runFrom f (suc m) k = cond (f k) (runFrom f m (suc k)) k
+
+-- how many numbers below m pass in an unbroken run from 0
+abbrev pub runOf : (ℕ → Bool) → ℕ → ℕ
+runOf f m = runFrom f m 0
+
 -- f 0, f 1, .. f (k - 1)
 unfoldable pub eachBelow : {A : Type 0} → (ℕ → A) → ℕ → List A
 eachBelow f zero = []

@@ -1,9 +1,9 @@
 -- What the tests over the numbers below a bound mean, for any test. Assumes nothing.
 use mathlib.Core.Path.{_≡_, refl, sym, ap, subst, _∙_}
-use mathlib.Core.Logic.{_↔_, ⊎-elim}
+use mathlib.Core.Logic.{_↔_, _⊎_, inl, inr, ⊎-elim}
 use mathlib.Core.Bool.{Bool, true, false, cond, _||_, true≢false}
 use mathlib.Core.List.{List, [], _∷_, _++_, append-nil, List·Memᴰ, List·Memᴰ·head, List·Memᴰ·tail, List·Memᴰ·not-nil, List·Memᴰ·append-cases, List·Memᴰ·eq-of-singleton, Memᴰ·append-left, Memᴰ·append-right}
-use Prim.Native.Nat.{ℕ, zero, suc, _<_}
+use Prim.Native.Nat.{ℕ, zero, suc, _+_, _≤_, _<_}
 use native.Mathlib.Nat.{not-suc-le-zero, le-of-suc-le-suc, eq-or-lt-of-le}
 use native.Mathlib.Omega.{arith}
 use borrow.Author.Tests.{lt-ltb}
@@ -12,7 +12,7 @@ use lib.ListN.{length, getD, length-append, List·getD-append}
 use lib.Seq.{getD-at}
 use Rattle.lists.specs.All.{all}
 use Rattle.lists.specs.AllLaws.{all-means}
-use Rattle.lists.specs.Below.{someBelow, thoseBelow, eachBelow}
+use Rattle.lists.specs.Below.{someBelow, thoseBelow, runFrom, eachBelow}
 use Rattle.lists.specs.SortLaws.{AtLeast, Ordered}
 
 -- a number below k that passes
@@ -96,6 +96,34 @@ module _ (f : ℕ → Bool) where
       ordered true [] o h = (tt, tt)
       ordered true (x ∷ xs) o h = (above x xs (h x (List·Memᴰ·head refl)) (o .0), ordered true xs (o .1) (λ y d. h y (List·Memᴰ·tail d)))
       ordered false xs o h = rw append-nil o
+
+-- ---- an unbroken run: r is its length exactly if every number below r passes, and r is m or fails
+module _ (f : ℕ → Bool) where
+  pub record Run (m k r : ℕ) : Type 0 where
+    pub from : k ≤ r
+    pub within : r ≤ k + m
+    pub passes : (i : ℕ) → k ≤ i → i < r → f i ≡ true
+    pub ends : (r ≡ k + m) ⊎ (f r ≡ false)
+
+  stop : (m k : ℕ) → f k ≡ false → Run m k k
+  stop m k e = record { from = omega arith; within = omega arith; passes = λ i h l. absurd (omega arith); ends = inr e }
+
+  on : (m k r : ℕ) → f k ≡ true → Run m (suc k) r → Run (suc m) k r
+  on m k r e u = record {
+    from = omega (arith, u .from);
+    within = omega (arith, u .within);
+    passes = λ i h l. ⊎-elim (λ (q : k ≡ i). ap f (sym q) ∙ e) (λ (g : k < i). u .passes i g l) (eq-or-lt-of-le h);
+    ends = ⊎-elim (λ (q : r ≡ suc k + m). inl (omega arith)) (λ (q : f r ≡ false). inr q) (u .ends);
+  }
+
+  pub run-is : (m k : ℕ) → Run m k (runFrom f m k)
+  unfolding runFrom
+  run-is zero k = record { from = omega arith; within = omega arith; passes = λ i h l. absurd (omega arith); ends = inl (omega arith) }
+  run-is (suc m) k = go (f k) refl (run-is m (suc k))
+    where
+      go : (b : Bool) → f k ≡ b → Run m (suc k) (runFrom f m (suc k)) → Run (suc m) k (cond b (runFrom f m (suc k)) k)
+      go true q u = on m k (runFrom f m (suc k)) q u
+      go false q u = stop (suc m) k q
 
 -- ---- tests that agree below k
 module _ (f g : ℕ → Bool) where

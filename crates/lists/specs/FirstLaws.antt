@@ -1,14 +1,15 @@
 -- The first element of a list in order that passes a test is the least that passes, found in one pass over the list as it stands. So a definition may
--- speak of the first in order, and the code need not sort. Assumes nothing.
+-- speak of the first in order, and the code need not sort. And what the first is: `first-means`, `none-means`. Assumes nothing.
 use mathlib.Core.Path.{_≡_, refl, sym, ap, _∙_}
-use mathlib.Core.Logic.{inl, inr}
-use mathlib.Core.List.{List, [], _∷_, foldl}
+use mathlib.Core.Logic.{_↔_, _⊎_, inl, inr}
+use mathlib.Core.List.{List, [], _∷_, foldl, List·Memᴰ, List·Memᴰ·head, List·Memᴰ·tail, List·Memᴰ·not-nil, List·Memᴰ·cases-cons}
 use mathlib.Core.Bool.{Bool, true, false, cond, true≢false}
-use mathlib.Core.Option.{Option, none, some}
+use mathlib.Core.Option.{Option, none, some, Option·some-injective, Option·none-ne-some, Option·some-ne-none}
 use Rattle.lists.specs.All.{AllOf}
+use Rattle.lists.specs.AllLaws.{all-of-listed}
 use Rattle.lists.specs.Sort.{lowerBy, upperBy, insertBy, sortOntoBy, sortedBy}
 use Rattle.lists.specs.First.{firstThat, betterBy, leastThat}
-use Rattle.lists.specs.SortLaws.{parted, AtLeast, Ordered, insert-ordered}
+use Rattle.lists.specs.SortLaws.{parted, AtLeast, Ordered, insert-ordered, sorted-ordered, sorted-listed}
 
 -- an order that is total and transitive, and that tells any two elements apart of which F holds
 module _ {A : Type 0} (le : A → A → Bool) (total : (x y : A) → le x y ≡ false → le y x ≡ true) (trans : (x y z : A) → le x y ≡ true → le y z ≡ true → le x z ≡ true)
@@ -94,3 +95,77 @@ module _ {A : Type 0} (le : A → A → Bool) (total : (x y : A) → le x y ≡ 
 
     pub first-is-least : (xs : List A) → AllOf F xs → firstThat t (sortedBy le xs) ≡ leastThat le t xs
     first-is-least xs f = onto-first [] xs tt tt f
+
+    -- ---- what the first is
+
+    -- x is in the list and passes, and each element of the list that passes is x or stands after it
+    pub record FirstIn (xs : List A) (x : A) : Type 0 where
+      pub listed : List·Memᴰ x xs
+      pub passes : t x ≡ true
+      pub first : (y : A) → List·Memᴰ y xs → t y ≡ true → le x y ≡ true
+
+    above-each : (z : A) (l : List A) → AtLeast le z l → (y : A) → List·Memᴰ y l → le z y ≡ true
+    above-each z [] h y m = absurd (List·Memᴰ·not-nil m)
+    above-each z (x ∷ xs) h y m = go (above-each z xs (h .1) y) (List·Memᴰ·cases-cons m)
+      where
+        go : (List·Memᴰ y xs → le z y ≡ true) → (y ≡ x) ⊎ List·Memᴰ y xs → le z y ≡ true
+        go ih (inl e) = ap (le z) e ∙ h .0
+        go ih (inr r) = ih r
+
+    ordered-first : (l : List A) (x : A) → Ordered le l → firstThat t l ≡ some x → FirstIn l x
+    ordered-first [] x o e = absurd (Option·none-ne-some x e)
+    ordered-first (y ∷ ys) x o e = go (t y) refl (λ q. ordered-first ys x (o .1) q) e
+      where
+        after : FirstIn ys x → t y ≡ false → (z : A) → (z ≡ y) ⊎ List·Memᴰ z ys → t z ≡ true → le x z ≡ true
+        after f q z (inl r) u = absurd (true≢false (sym u ∙ ap t r ∙ q))
+        after f q z (inr r) u = f .first z r u
+
+        here : y ≡ x → (z : A) → (z ≡ y) ⊎ List·Memᴰ z ys → le x z ≡ true
+        here q z (inl r) = ap (λ (w : A). le w z) (sym q) ∙ ap (le y) r ∙ reflexive y
+        here q z (inr r) = ap (λ (w : A). le w z) (sym q) ∙ above-each y ys (o .0) z r
+
+        go : (b : Bool) → t y ≡ b → (firstThat t ys ≡ some x → FirstIn ys x) → cond b (some y) (firstThat t ys) ≡ some x → FirstIn (y ∷ ys) x
+        go true q ih e =
+            let r : y ≡ x = Option·some-injective y x e in
+            record { listed = List·Memᴰ·head (sym r); passes = ap t (sym r) ∙ q; first = λ z m u. here r z (List·Memᴰ·cases-cons m) }
+        go false q ih e =
+            let f = ih e in
+            record { listed = List·Memᴰ·tail (f .listed); passes = f .passes; first = λ z m u. after f q z (List·Memᴰ·cases-cons m) u }
+
+    none-passes : (l : List A) → firstThat t l ≡ none → (y : A) → List·Memᴰ y l → t y ≡ false
+    none-passes [] e y m = absurd (List·Memᴰ·not-nil m)
+    none-passes (x ∷ xs) e y m = go (t x) refl (λ q. none-passes xs q y) e (List·Memᴰ·cases-cons m)
+      where
+        go : (b : Bool) → t x ≡ b → (firstThat t xs ≡ none → List·Memᴰ y xs → t y ≡ false) → cond b (some x) (firstThat t xs) ≡ none → (y ≡ x) ⊎ List·Memᴰ y xs → t y ≡ false
+        go true q ih e h = absurd (Option·some-ne-none x e)
+        go false q ih e (inl r) = ap t r ∙ q
+        go false q ih e (inr r) = ih e r
+
+    none-found : (l : List A) → ((y : A) → List·Memᴰ y l → t y ≡ false) → firstThat t l ≡ none
+    none-found [] h = refl
+    none-found (x ∷ xs) h = rw (h x (List·Memᴰ·head refl)) (none-found xs (λ y m. h y (List·Memᴰ·tail m)))
+
+    -- none is found exactly if no element passes
+    pub none-means : (xs : List A) → (firstThat t (sortedBy le xs) ≡ none) ↔ ((y : A) → List·Memᴰ y xs → t y ≡ false)
+    none-means xs = (
+      λ e y m. none-passes (sortedBy le xs) e y (sorted-listed le total y xs .1 m),
+      λ h. none-found (sortedBy le xs) (λ y m. h y (sorted-listed le total y xs .0 m)),
+    )
+
+    found-first : (xs : List A) (x : A) → firstThat t (sortedBy le xs) ≡ some x → FirstIn xs x
+    found-first xs x e =
+        let f = ordered-first (sortedBy le xs) x (sorted-ordered le total trans xs) e in
+        record { listed = sorted-listed le total x xs .0 (f .listed); passes = f .passes; first = λ y m. f .first y (sorted-listed le total y xs .1 m) }
+
+    first-found : (xs : List A) (x : A) → AllOf F xs → FirstIn xs x → firstThat t (sortedBy le xs) ≡ some x
+    first-found xs x a f = go (firstThat t (sortedBy le xs)) refl
+      where
+        go : (r : Option A) → firstThat t (sortedBy le xs) ≡ r → firstThat t (sortedBy le xs) ≡ some x
+        go none e = absurd (true≢false (sym (f .passes) ∙ none-means xs .0 e x (f .listed)))
+        go (some y) e =
+            let g = found-first xs y e in
+            e ∙ ap some (antisym y x (all-of-listed F xs a y (g .listed)) (all-of-listed F xs a x (f .listed)) (g .first x (f .listed) (f .passes)) (f .first y (g .listed) (g .passes)))
+
+    -- x is found exactly if it is the first
+    pub first-means : (xs : List A) (x : A) → AllOf F xs → (firstThat t (sortedBy le xs) ≡ some x) ↔ FirstIn xs x
+    first-means xs x a = (found-first xs x, first-found xs x a)
