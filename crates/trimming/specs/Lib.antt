@@ -1,3 +1,5 @@
--- Trimming, step by step, and what it comes to.
+-- The order of trimming, and trimming step by step, with what it comes to.
+pub mod Order
+pub mod OrderLaws
 pub mod Trimming
 pub mod TrimmingLaws

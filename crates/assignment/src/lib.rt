@@ -1,0 +1,263 @@
+// Plans: the assignment predicted to commit the soonest (pick_assignment), and full copies where there is none.
+ghost use mathlib.Core.Path.{_≡_};
+ghost use mathlib.Core.Bool.{cond, _&&_};
+ghost use mathlib.Core.Option.{some};
+ghost use Prim.Native.Nat.{suc, _+_, _*_, _<_, _≤_};
+ghost use lib.ListN.{length, replicate};
+ghost use Rattle.lists.specs.First.{betterBy};
+ghost use Rattle.floats.specs.Floats.{isFinite, totalLe, found};
+ghost use Rattle.layout.specs.Layout.{Fit, bound, laid};
+ghost use Rattle.assignment.specs.Search.{runAt, answeredAt, loadsAt, commitsAt, firstTime};
+ghost use Rattle.assignment.specs.Plans.{laidOut, planAt, planOf, peersFit, pickRefusal, picked, pickOf, planned, copiesRefusal, copiesWidth, fullCopiesOf, copiesWritten};
+use bitmap::ReplicaId;
+use floats::Found;
+use layout::Laid;
+use layout::TotalShards;
+use times::PeerRecord;
+
+// The times of 16 replicas at the loads 0 to 64.
+const MOST_TIMES: usize = 1040;
+
+// No plan is an answer of its own. A plan's rows are in the lent table.
+pub enum Pick {
+    Refused(u8),
+    NoPlan,
+    Planned { time: f64, width: usize },
+}
+
+// Picks the assignment predicted to commit the soonest for a value of `size` bytes under d data shards and the total. Commits need replies from at least
+// a quorum that pass the commit rule.
+pub fn pick_assignment(n: usize, own: ReplicaId, quorum: usize, d: usize, total: TotalShards, size: u64, peers: [PeerRecord; 16], penalty: f64, faults: &[u64], rows: &mut [u64]) -> Pick
+    ensures answer { λ r. ⌜ picked r (now (rows .exit)) ≡ pickOf n (own .0) quorum d total size peers penalty (now (faults .entry)) (length (now (rows .entry))) ⌝ }
+    ensures words { λ r. ⌜ now (rows .exit) ≡ planned (pickOf n (own .0) quorum d total size peers penalty (now (faults .entry)) (length (now (rows .entry)))) (now (rows .entry)) ⌝ }
+{
+    let no = pick_refusal(n, own, quorum, d, total, size, peers, faults, rows.len());
+    if no != 0 {
+        return Pick::Refused(no);
+    }
+    let mut table = [0.0f64; MOST_TIMES];
+    let m = n * (d + 1);
+    times::fill_times(n, own, d, times::shard_length(size, d), peers, penalty, &mut table[..m]);
+    plan(n, own, quorum, d, total, faults, &table[..m], rows)
+}
+
+// Full copies for everyone: the width d under a ceiling, else the exact one.
+pub fn full_copies(n: usize, d: usize, total: TotalShards, rows: &mut [u64]) -> Laid
+    ensures answer { λ r. ⌜ laid r ≡ fullCopiesOf n d total (length (now (rows .entry))) ⌝ }
+    ensures words { λ r. ⌜ now (rows .exit) ≡ copiesWritten n d total (now (rows .entry)) ⌝ }
+{
+    let no = copies_refusal(n, d, total, rows.len());
+    if no != 0 {
+        return Laid::Refused(no);
+    }
+    copy_to_all(bitmap::run(0, d), rows);
+    Laid::Width(copies_width(d, total))
+}
+
+fn pick_refusal(n: usize, own: ReplicaId, quorum: usize, d: usize, total: TotalShards, size: u64, peers: [PeerRecord; 16], faults: &[u64], rows: usize) -> u8
+    ensures { λ r. ⌜ r ≡ pickRefusal n (own .0) quorum d total size peers (now (faults .entry)) rows ⌝ }
+{
+    if !refusals::is_population(n) {
+        return refusals::POPULATION;
+    }
+    if !refusals::is_replica(n, own) {
+        return refusals::REPLICA;
+    }
+    if !refusals::is_shards(d, layout::bound(total)) {
+        return refusals::SHARDS;
+    }
+    if !refusals::is_quorum(n, quorum) {
+        return refusals::QUORUM;
+    }
+    if !refusals::is_size(size) {
+        return refusals::BYTES;
+    }
+    if !peers_fit(n, own, peers) {
+        return refusals::BYTES;
+    }
+    if !refusals::is_fault_list(n, faults) {
+        return refusals::TABLE;
+    }
+    if rows != n {
+        return refusals::TABLE;
+    }
+    0
+}
+
+// Whether the bytes in flight to each peer are within bounds. A part: the population has been tested.
+fn peers_fit(n: usize, own: ReplicaId, peers: [PeerRecord; 16]) -> bool
+    requires { ⌜ n ≤ 16 ⌝ }
+    ensures { λ r. ⌜ r ≡ peersFit n (own .0) peers ⌝ }
+{
+    let mut p = 0;
+    while p < n {
+        let told = peers[p];
+        if p != own.0 {
+            if !refusals::is_in_flight(told.inflight) {
+                return false;
+            }
+        }
+        p += 1;
+    }
+    true
+}
+
+fn copies_refusal(n: usize, d: usize, total: TotalShards, rows: usize) -> u8
+    ensures { λ r. ⌜ r ≡ copiesRefusal n d total rows ⌝ }
+{
+    if !refusals::is_population(n) {
+        return refusals::POPULATION;
+    }
+    if !refusals::is_shards(d, layout::bound(total)) {
+        return refusals::SHARDS;
+    }
+    if rows != n {
+        return refusals::TABLE;
+    }
+    0
+}
+
+fn copies_width(d: usize, total: TotalShards) -> usize
+    ensures { λ r. ⌜ r ≡ copiesWidth d total ⌝ }
+{
+    match total {
+        TotalShards::Exactly(w) => w,
+        TotalShards::AtMost(_) => d,
+    }
+}
+
+fn copy_to_all(row: u64, rows: &mut [u64])
+    ensures { λ _. ⌜ now (rows .exit) ≡ replicate (length (now (rows .entry))) row ⌝ }
+{
+    let mut s = 0;
+    while s < rows.len() {
+        rows[s] = row;
+        s += 1;
+    }
+}
+
+// The plan of a table of times. A part: the numbers have been tested, and the table is that of n replicas.
+fn plan(n: usize, own: ReplicaId, quorum: usize, d: usize, total: TotalShards, faults: &[u64], times: &[f64], rows: &mut [u64]) -> Pick
+    requires { ⌜ Fit d (bound total) × (n ≤ 16) × (length (now times) ≡ n * suc d) × (length (now rows) ≡ n) ⌝ }
+    ensures answer { λ r. ⌜ picked r (now (rows .exit)) ≡ planOf n (own .0) quorum d total (now (faults .entry)) (now (times .entry)) ⌝ }
+    ensures words { λ r. ⌜ now (rows .exit) ≡ planned (planOf n (own .0) quorum d total (now (faults .entry)) (now (times .entry))) (now (rows .entry)) ⌝ }
+{
+    match first_time(n, own, quorum, d, total, faults, times) {
+        Found::Nothing => Pick::NoPlan,
+        Found::At(t) => plan_at(n, own, quorum, d, total, faults, times, t, rows),
+    }
+}
+
+// The plan at a time: its loads, trimmed, laid out and tested once more.
+fn plan_at(n: usize, own: ReplicaId, quorum: usize, d: usize, total: TotalShards, faults: &[u64], times: &[f64], t: f64, rows: &mut [u64]) -> Pick
+    requires { ⌜ Fit d (bound total) × (n ≤ 16) × (length (now times) ≡ n * suc d) × (length (now rows) ≡ n) ⌝ }
+    ensures answer { λ r. ⌜ picked r (now (rows .exit)) ≡ planAt n (own .0) quorum d total (now (faults .entry)) (now (times .entry)) (some t) ⌝ }
+    ensures words { λ r. ⌜ now (rows .exit) ≡ planned (planAt n (own .0) quorum d total (now (faults .entry)) (now (times .entry)) (some t)) (now (rows .entry)) ⌝ }
+{
+    let mut order = [0usize; 16];
+    let count = trimming::trim_order(n, own, d, times, &mut order);
+    let mut loads = [0usize; 16];
+    let answered = loads_at(n, own, d, times, t, &mut loads[..n]);
+    trimming::trim(n, quorum, d, total, answered, faults, &order[..count], &mut loads[..n]);
+    lay_out(n, quorum, d, total, answered, faults, t, &loads[..n], rows)
+}
+
+// What trimmed loads come to.
+fn lay_out(n: usize, quorum: usize, d: usize, total: TotalShards, answered: u64, faults: &[u64], t: f64, loads: &[usize], rows: &mut [u64]) -> Pick
+    requires { ⌜ Fit d (bound total) × (n ≤ 16) × (length (now loads) ≡ n) × (length (now rows) ≡ n) ⌝ }
+    ensures answer { λ r. ⌜ picked r (now (rows .exit)) ≡ laidOut n quorum d total (now (faults .entry)) answered t (now (loads .entry)) ⌝ }
+    ensures words { λ r. ⌜ now (rows .exit) ≡ planned (laidOut n quorum d total (now (faults .entry)) answered t (now (loads .entry))) (now (rows .entry)) ⌝ }
+{
+    if !layout::commits(n, quorum, d, total, answered, faults, loads) {
+        return Pick::Refused(refusals::TRIMMED);
+    }
+    let width = layout::lay(d, total, loads, rows);
+    Pick::Planned { time: t, width }
+}
+
+// The first candidate in total order that commits. One pass serves: a candidate is tested only if it stands before the best so far.
+fn first_time(n: usize, own: ReplicaId, quorum: usize, d: usize, total: TotalShards, faults: &[u64], times: &[f64]) -> Found
+    requires { ⌜ Fit d (bound total) × (n ≤ 16) × (length (now times) ≡ n * suc d) ⌝ }
+    ensures { λ r. ⌜ found r ≡ firstTime n (own .0) quorum d total (now (faults .entry)) (now (times .entry)) ⌝ }
+{
+    let mut best = Found::Nothing;
+    let mut i = 0;
+    while i < times.len() {
+        best = consider(n, own, quorum, d, total, faults, times, best, times[i]);
+        i += 1;
+    }
+    best
+}
+
+// The better of what was found and x, if x is a candidate that commits.
+fn consider(n: usize, own: ReplicaId, quorum: usize, d: usize, total: TotalShards, faults: &[u64], times: &[f64], best: Found, x: f64) -> Found
+    requires { ⌜ Fit d (bound total) × (n ≤ 16) × (length (now times) ≡ n * suc d) ⌝ }
+    ensures { λ r. ⌜ found r ≡ cond (isFinite x && commitsAt n (own .0) quorum d total (now (faults .entry)) (now (times .entry)) x) (betterBy totalLe (found best) x) (found best) ⌝ }
+{
+    if !floats::is_finite(x) {
+        return best;
+    }
+    match best {
+        Found::Nothing => (),
+        Found::At(b) => {
+            if floats::total_le(b, x) {
+                return best;
+            }
+        }
+    }
+    if commits_at(n, own, quorum, d, total, faults, times, x) {
+        return Found::At(x);
+    }
+    best
+}
+
+// Whether the layout of the loads at a time commits.
+fn commits_at(n: usize, own: ReplicaId, quorum: usize, d: usize, total: TotalShards, faults: &[u64], times: &[f64], t: f64) -> bool
+    requires { ⌜ Fit d (bound total) × (n ≤ 16) × (length (now times) ≡ n * suc d) ⌝ }
+    ensures { λ r. ⌜ r ≡ commitsAt n (own .0) quorum d total (now (faults .entry)) (now (times .entry)) t ⌝ }
+{
+    let mut loads = [0usize; 16];
+    let answered = loads_at(n, own, d, times, t, &mut loads[..n]);
+    layout::commits(n, quorum, d, total, answered, faults, &loads[..n])
+}
+
+// The most shards that each replica can persist by a time, and the mask of those that can persist any or none.
+fn loads_at(n: usize, own: ReplicaId, d: usize, times: &[f64], t: f64, loads: &mut [usize]) -> u64
+    requires { ⌜ (d ≤ 64) × (n ≤ 16) × (length (now times) ≡ n * suc d) × (length (now loads) ≡ n) ⌝ }
+    ensures mask { λ r. ⌜ r ≡ answeredAt (own .0) d (now (times .entry)) t n ⌝ }
+    ensures loads { λ r. ⌜ now (loads .exit) ≡ loadsAt (own .0) d (now (times .entry)) t n ⌝ }
+{
+    let mut answered: u64 = 0;
+    let mut p = 0;
+    while p < n {
+        let run = run_at(own, d, times, t, ReplicaId(p));
+        if run == 0 {
+            loads[p] = 0;
+        } else {
+            loads[p] = run - 1;
+            answered = bitmap::with_replica(answered, ReplicaId(p));
+        }
+        p += 1;
+    }
+    answered
+}
+
+// How many loads of the replica p, from 0 on in an unbroken run, are in time.
+fn run_at(own: ReplicaId, d: usize, times: &[f64], t: f64, p: ReplicaId) -> usize
+    requires { ⌜ (d ≤ 64) × (p .0 * suc d + d < length (now times)) ⌝ }
+    ensures { λ r. ⌜ r ≡ runAt (own .0) d (now (times .entry)) t (p .0) ⌝ }
+{
+    if p.0 == own.0 {
+        return d + 1;
+    }
+    let from = p.0 * (d + 1);
+    let mut k = 0;
+    while k <= d {
+        if times[from + k] <= t {
+            k += 1;
+        } else {
+            return k;
+        }
+    }
+    k
+}
