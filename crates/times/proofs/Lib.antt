@@ -1,0 +1,2 @@
+-- What the loop keeps, and worked values.
+pub mod Tables

@@ -1,2 +1,3 @@
 -- Predicted reply times.
 pub mod Times
+pub mod TimeLaws

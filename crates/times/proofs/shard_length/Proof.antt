@@ -1,0 +1,12 @@
+-- `times::shard_length` meets its contract. Assumes nothing.
+use borrow.Author.Needs.{needs}
+use borrow.Author.Tests.{eq-eqb, ne-eqb}
+use Rattle.times.specs.Times.{shardLength}
+use Rattle.times.proofs.shard_length.Statement.{statement}
+use Rattle.times.proofs.shard_length.Tie as tie
+
+pub shard-length-spec : {M : Type 1} → statement M
+unfolding shardLength
+shard-length-spec =
+    tie.close
+    (tie.spec (λ c. search needs) (λ c. search needs) (λ c. search needs) (λ c. rw (eq-eqb _ _ (c .if1 .taken))) (λ c. rw (ne-eqb _ _ (c .if1 .left))))
