@@ -91,3 +91,9 @@ all-more p [] x h e = rw e
 all-more p (y ∷ ys) x h e =
     let b = and-eq-true-iff (p y) (all p ys) .0 h in
     and-eq-true-iff (p y) (all p (ys ++ (x ∷ []))) .1 (b .0, all-more p ys x (b .1) e)
+
+-- within a list it does not matter what stands past its end
+pub inside-any : {A : Type 0} (xs : List A) (i : ℕ) (a b : A) → i < length xs → getD xs i a ≡ getD xs i b
+inside-any [] i a b h = absurd (not-suc-le-zero h)
+inside-any (x ∷ xs) zero a b h = refl
+inside-any (x ∷ xs) (suc i) a b h = inside-any xs i a b (le-of-suc-le-suc h)

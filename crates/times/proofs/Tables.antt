@@ -1,12 +1,13 @@
 -- What the loop of `fill_times` keeps: the place i is that of the replica p with k shards, in a table of L places for n replicas. The premises are the
 -- fields of a need's record, so that `search` finds them. Assumes nothing.
-use mathlib.Core.Path.{_≡_, _∙_}
+use mathlib.Core.Path.{_≡_, sym, _∙_}
 use mathlib.Core.List.{List}
 use Prim.Native.Nat.{ℕ, suc, _+_, _*_, _≤_, _<_}
-use native.Mathlib.Nat.{add-mul}
+use native.Mathlib.Nat.{add-mul, mul-suc, mul-le-mul}
 use native.Mathlib.Omega.{arith}
 use lib.Ieee.{Float}
-use Rattle.times.specs.Times.{timeOf, cell}
+use lib.ListN.{length, List·getD-eq-default}
+use Rattle.times.specs.Times.{never, timeOf, cell, timeIn}
 use Rattle.times.specs.TimeLaws.{place-row, place-load, place-replica}
 use Rattle.times.specs.declared.PeerRecord.{PeerRecord}
 
@@ -25,3 +26,11 @@ module _ (d i p k : ℕ) (load : k ≤ d) (place : i ≡ p * suc d + k) where
 
   pub next-load : (q l : ℕ) → (k ≡ d → ⊥) → q ≡ p → l ≡ k + 1 → (l ≤ d) × (i + 1 ≡ q * suc d + l)
   next-load q l e f g = (omega arith, rw (f, g) (omega arith))
+
+-- a replica whose number is past the table has no time in it
+pub past-table : (d k p : ℕ) (times : List Float) → length times ≤ p → never ≡ timeIn d times p k
+past-table d k p times h = sym (List·getD-eq-default times never {n = p * suc d + k} (omega (arith, mul-suc p d)))
+
+-- and one within it has its times at a small place
+pub place-small : (p d L : ℕ) → p < L → L ≤ 1040 → d ≤ 64 → p * (d + 1) ≤ 67600
+place-small p d L h l e = let a : p ≤ 1040 = omega arith in let b : d + 1 ≤ 65 = omega arith in mul-le-mul a b

@@ -62,6 +62,10 @@ module _ (own d len : ℕ) (records : List PeerRecord) (penalty : Float) where
 unfoldable pub timesOf : ℕ → ℕ → ℕ → ℕ → List PeerRecord → Float → List Float
 timesOf n own d len records penalty = eachBelow (cell own d len records penalty) (n * suc d)
 
+-- the time of p with k shards, read off such a list
+abbrev pub timeIn : ℕ → List Float → ℕ → ℕ → Float
+timeIn d times p k = getD times (p * suc d + k) never
+
 -- ---- what has been tested of the records
 
 -- at most 2 ^ 40 bytes in flight

@@ -3,7 +3,7 @@ ghost use mathlib.Core.Path.{_≡_};
 ghost use mathlib.Core.Bool.{false};
 ghost use Prim.Native.Nat.{_*_, _^_, _<_, _≤_, suc};
 ghost use lib.ListN.{length};
-ghost use Rattle.times.specs.Times.{InBounds, PeersInBounds, predictOf, settled, replyTime, timeAt, shardLength, timesOf};
+ghost use Rattle.times.specs.Times.{InBounds, PeersInBounds, predictOf, settled, replyTime, timeAt, shardLength, timesOf, timeIn};
 use bitmap::ReplicaId;
 
 // The performance model of a peer: slope in ms a MiB, delay and jitter in ms.
@@ -119,4 +119,19 @@ pub fn fill_times(
         }
         i += 1;
     }
+}
+
+// The time of the replica p with k shards in the table; never, where it has none. A part: the table is one of at most 16 replicas.
+pub fn time_in(d: usize, times: &[f64], p: ReplicaId, k: usize) -> f64
+    requires { ⌜ (d ≤ 64) × (k ≤ 64) × (length (now times) ≤ 1040) ⌝ }
+    ensures { λ r. ⌜ r ≡ timeIn d (now (times .entry)) (p .0) k ⌝ }
+{
+    if times.len() <= p.0 {
+        return 1.0 / 0.0;
+    }
+    let i = p.0 * (d + 1) + k;
+    if times.len() <= i {
+        return 1.0 / 0.0;
+    }
+    times[i]
 }
