@@ -2,9 +2,9 @@
 -- laws are the fields of a need's record, so that `search` finds them: r is what the test's function returned at k, and then what the branch saw.
 -- Assumes nothing.
 use mathlib.Core.Path.{_≡_, refl, sym, ap, _∙_}
-use mathlib.Core.Bool.{Bool, true, false}
+use mathlib.Core.Bool.{Bool, true, false, cond}
 use mathlib.Core.List.{List, [], _∷_, _++_, append-nil, append-assoc}
-use Prim.Native.Nat.{ℕ, suc, _+_, _-_, _≤_, _<_}
+use Prim.Native.Nat.{ℕ, zero, suc, _+_, _-_, _≤_, _<_}
 use native.Mathlib.Nat.{le-refl, le-trans}
 use native.Mathlib.Decide.{le-ind}
 use native.Mathlib.Numerals.{add-one}
@@ -41,6 +41,16 @@ module _ (f : ℕ → Bool) where
 
   pub those-mono : (i k : ℕ) → i ≤ k → length (thoseBelow f i) ≤ length (thoseBelow f k)
   those-mono i k h = le-ind (λ (m : ℕ). length (thoseBelow f i) ≤ length (thoseBelow f m)) (le-refl _) (λ m l e. le-trans e (step m)) k h
+
+  -- ---- and no more than were tried
+  pub those-length : (k : ℕ) → length (thoseBelow f k) ≤ k
+  unfolding thoseBelow
+  those-length zero = le-refl zero
+  those-length (suc k) = simp length-append (go (f k) (those-length k))
+    where
+      go : (b : Bool) → length (thoseBelow f k) ≤ k → length (thoseBelow f k) + length (cond b (k ∷ []) []) ≤ suc k
+      go true h = omega arith
+      go false h = omega arith
 
   -- ---- a loop up to L, which is n: c counts those below k
   pub count-none : 0 ≡ length (thoseBelow f 0)
