@@ -69,7 +69,7 @@ rowsOf d total loads = eachBelow (rowAt d (widthOf d total loads) loads) (length
 
 -- the layout commits: at least a quorum answers, and coverage holds
 unfoldable pub layoutCommits : ℕ → ℕ → ℕ → TotalShards → ℕ → List ℕ → List ℕ → Bool
-layoutCommits n quorum d total answered loads faults = commits n quorum d answered (rowIn (rowsOf d total loads)) faults
+layoutCommits n quorum d total answered faults loads = commits n quorum d answered (rowIn (rowsOf d total loads)) faults
 
 -- a replica that does not answer has load 0, whatever stands in its place
 abbrev pub heardLoad : ℕ → List ℕ → ℕ → ℕ
@@ -128,7 +128,7 @@ module _ (n quorum d : ℕ) (total : TotalShards) (answered : ℕ) (loads faults
 
   unfoldable pub layoutCommitsOf : ℕ → Outcome (ℕ × Bool)
   layoutCommitsOf rows =
-      outcome (commitsRefusal n quorum d total answered (length loads) faults rows) (widthOf d total heard, layoutCommits n quorum d total answered heard faults)
+      outcome (commitsRefusal n quorum d total answered (length loads) faults rows) (widthOf d total heard, layoutCommits n quorum d total answered faults heard)
 
   -- the table at exit, also where it does not commit
   unfoldable pub trialWritten : List ℕ → List ℕ

@@ -96,11 +96,11 @@ pub fn commits(
     d: usize,
     total: TotalShards,
     answered: u64,
-    loads: &[usize],
     faults: &[u64],
+    loads: &[usize],
 ) -> bool
     requires { ⌜ Fit d (bound total) × (length (now loads) ≡ n) × (n ≤ 16) ⌝ }
-    ensures { λ r. ⌜ r ≡ layoutCommits n quorum d total answered (now (loads .entry)) (now (faults .entry)) ⌝ }
+    ensures { λ r. ⌜ r ≡ layoutCommits n quorum d total answered (now (faults .entry)) (now (loads .entry)) ⌝ }
 {
     let mut rows = [0u64; 16];
     lay(d, total, loads, &mut rows[..n]);

@@ -9,15 +9,21 @@ use native.Mathlib.Nat.{le-refl, le-trans}
 use native.Mathlib.Decide.{le-ind}
 use native.Mathlib.Numerals.{add-one}
 use native.Mathlib.Omega.{arith}
-use lib.ListN.{length, take, set, length-append, length-drop}
+use lib.ListN.{length, take, set, length-append, length-drop, drop-of-length-le}
 use lib.Seq.{set-append-seam, drop-cons, take-suc-set}
 use Rattle.lists.specs.Below.{thoseBelow, runFrom, eachBelow, front}
+use Rattle.lists.specs.BelowLaws.{each-below-length}
 
 -- ---- one list at the front of another
 module _ (xs l : List ℕ) where
   pub front-length : length xs ≤ length l → length (front xs l) ≡ length l
   unfolding front
   front-length h = simp (length-append, length-drop) (omega arith)
+
+  -- nothing is left of a list that is no longer
+  pub front-all : length l ≤ length xs → front xs l ≡ xs
+  unfolding front
+  front-all h = rw drop-of-length-le (append-nil xs)
 
   -- one more word
   pub front-more : (x c : ℕ) → c ≡ length xs → length xs < length l → set (front xs l) c x ≡ front (xs ++ (x ∷ [])) l
@@ -107,6 +113,22 @@ module _ {A : Type 0} (f : ℕ → A) where
 
     pub each-done : (n : ℕ) → k ≤ n → n ≤ k → take n w ≡ eachBelow f n
     each-done n h g = let q : k ≡ n = omega arith in rw q at written
+
+-- ---- the same, and past those places w is as l was
+module _ (f : ℕ → ℕ) (l : List ℕ) where
+  pub front-none : l ≡ front (eachBelow f 0) l
+  unfolding eachBelow front
+  front-none = refl
+
+  module _ (w : List ℕ) (k : ℕ) (written : w ≡ front (eachBelow f k) l) where
+    pub front-next : (x : ℕ) → k < length l → x ≡ f k → set w k x ≡ front (eachBelow f (k + 1)) l
+    unfolding eachBelow
+    front-next x h e =
+        let n = each-below-length f k in
+        rw (written, front-more (eachBelow f k) l x k (sym n) (omega arith), add-one, e)
+
+    pub front-done : (n : ℕ) → k ≤ n → n ≤ k → w ≡ front (eachBelow f n) l
+    front-done n h g = let q : k ≡ n = omega arith in rw q at written
 
 -- ---- a loop up to m that goes on while the test passes: what is left of the run ends where the whole does
 module _ (f : ℕ → Bool) (m k : ℕ) where

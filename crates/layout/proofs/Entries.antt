@@ -1,0 +1,86 @@
+-- What the entries rest on: the check of the shards, whose width is what a call returned; a part of a local table that is lent; and how the answers come
+-- about. The premises are what a need's record holds. Assumes nothing.
+use mathlib.Core.Path.{_≡_, sym, ap, ap₂, _∙_}
+use mathlib.Core.Bool.{Bool, true, false, cond, not}
+use mathlib.Core.List.{List, _++_}
+use Prim.Native.Nat.{ℕ, _≤_}
+use native.Mathlib.Nat.{le-of-eq}
+use native.Mathlib.Omega.{arith}
+use lib.ListN.{length, take, drop, length-append}
+use lib.Seq.{length-take-le, take-at}
+use Rattle.lists.specs.Below.{front}
+use Rattle.lists.proofs.BelowLoops.{front-all}
+use Rattle.refusals.specs.Limits.{isShards}
+use Rattle.refusals.specs.Outcome.{accepted}
+use Rattle.refusals.proofs.Checks.{checks, call-passes, call-fails}
+use Rattle.refusals.proofs.Outcomes.{is-accepted}
+use Rattle.coverage.specs.Coverage.{rowIn, commits}
+use Rattle.layout.specs.declared.TotalShards.{TotalShards}
+use Rattle.layout.specs.Layout.{widthOf, rowsOf, heardLoads, layoutCommits, rowsRefusal, rowsWritten, commitsRefusal, layoutCommitsOf, trialWritten}
+use Rattle.layout.specs.LayoutLaws.{rows-length, heard-length}
+use Rattle.layout.specs.RefusalLaws.{rows-sound, trial-sound}
+
+-- ---- the shards, tested with b, which is the width
+module _ (d w b : ℕ) (r : Bool) where
+  pub shards-pass : (k x rest : ℕ) → b ≡ w → r ≡ isShards d b → not r ≡ false → x ≡ rest → x ≡ cond (not (isShards d w)) k rest
+  shards-pass k x rest q e t p = call-passes (isShards d w) r k x rest (e ∙ ap (isShards d) q) t p
+
+  pub shards-fail : (k rest : ℕ) → b ≡ w → r ≡ isShards d b → not r ≡ true → k ≡ cond (not (isShards d w)) k rest
+  shards-fail k rest q e t = call-fails (isShards d w) r k rest (e ∙ ap (isShards d) q) t
+
+pub ruleset layout-checks = (checks, shards-pass, shards-fail)
+
+-- ---- the first n words of a local table, lent, and as they come back
+module _ (n : ℕ) (table : List ℕ) (room : n ≤ length table) where
+  pub lent : n ≡ length (take n table)
+  lent = sym (length-take-le n table room)
+
+  module _ (after : List ℕ) (kept : length after ≡ length (take n table)) where
+    pub back : take n (after ++ drop n table) ≡ after
+    back = take-at after (drop n table) n (kept ∙ sym lent)
+
+    pub back-room : n ≤ length (after ++ drop n table)
+    back-room = omega (arith, length-append after (drop n table), lent)
+
+    pub back-lent : n ≡ length (take n (after ++ drop n table))
+    back-lent = lent ∙ sym kept ∙ ap length (sym back)
+
+    pub back-enough : n ≤ length (take n (after ++ drop n table))
+    back-enough = le-of-eq back-lent
+
+-- ---- rows laid in a table of as many words
+pub whole : (d : ℕ) (total : TotalShards) (loads rows : List ℕ) → length rows ≡ length loads → front (rowsOf d total loads) rows ≡ rowsOf d total loads
+whole d total loads rows h = front-all (rowsOf d total loads) rows (omega (arith, rows-length d total loads))
+
+-- ---- `layout_rows`
+module _ (n d : ℕ) (total : TotalShards) (loads rows : List ℕ) (got : ℕ) (e : got ≡ rowsRefusal n d total (length loads) (length rows)) (z : got ≡ 0) where
+  pub rows-written : (after : List ℕ) → after ≡ front (rowsOf d total loads) rows → after ≡ rowsWritten n d total loads rows
+  unfolding rowsWritten
+  rows-written after l =
+      let s = rows-sound n d total (length loads) (length rows) .0 (sym e ∙ z) in
+      rw (sym e ∙ z) (l ∙ whole d total loads rows (omega arith))
+
+-- ---- `layout_commits`
+pub trial-small : (n quorum d : ℕ) (total : TotalShards) (answered loads : ℕ) (faults : List ℕ) (rows got : ℕ)
+    → got ≡ commitsRefusal n quorum d total answered loads faults rows → got ≡ 0 → n ≤ 16
+trial-small n quorum d total answered loads faults rows got e z = trial-sound n quorum d total answered loads faults rows .0 (sym e ∙ z) .population .1
+
+-- where the loads of those that answer were laid
+module _ (n quorum d : ℕ) (total : TotalShards) (answered : ℕ) (loads faults rows : List ℕ) (got : ℕ)
+    (e : got ≡ commitsRefusal n quorum d total answered (length loads) faults (length rows)) (z : got ≡ 0)
+    (heard after : List ℕ) (h : heard ≡ heardLoads answered loads) (l : after ≡ front (rowsOf d total heard) rows) where
+  laid-rows : after ≡ rowsOf d total (heardLoads answered loads)
+  laid-rows =
+      let s = trial-sound n quorum d total answered (length loads) faults (length rows) .0 (sym e ∙ z) in
+      l ∙ ap (λ (x : List ℕ). front (rowsOf d total x) rows) h ∙ whole d total (heardLoads answered loads) rows (omega (arith, heard-length answered loads))
+
+  pub trial-written : after ≡ trialWritten n quorum d total answered loads faults rows
+  unfolding trialWritten
+  trial-written = rw (sym e ∙ z) laid-rows
+
+  pub trial-says : (w : ℕ) (c : Bool) → w ≡ widthOf d total heard → c ≡ commits n quorum d answered (rowIn after) faults
+      → accepted (w, c) ≡ layoutCommitsOf n quorum d total answered loads faults (length rows)
+  unfolding layoutCommitsOf layoutCommits
+  trial-says w c q t =
+      is-accepted _ got _ (w, c) e z
+      (ap₂ (λ (x : ℕ) (y : Bool). (x, y)) (q ∙ ap (widthOf d total) h) (t ∙ ap (λ (x : List ℕ). commits n quorum d answered (rowIn x) faults) laid-rows))
