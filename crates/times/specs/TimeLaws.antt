@@ -85,6 +85,7 @@ module _ (n own d len : ℕ) (records : List PeerRecord) (penalty : Float) where
       (time-fits _ _ _ _ _))
 
 -- ---- a shard's length: the least number from 1 on of which d make up the size
+-- 0 becomes 1, and any other number stays
 pub raised : (q : ℕ) → q ≡ 0 → 1 ≡ atLeastOne q
 raised q e = rw (eq-eqb q 0 e)
 
