@@ -1,2 +1,3 @@
 -- What the loop keeps, and worked values.
 pub mod Tables
+pub mod Examples

@@ -4,7 +4,7 @@ use mathlib.Core.Logic.{_⊎_, inl, inr}
 use mathlib.Core.Bool.{Bool, true, false}
 use mathlib.Core.List.{List}
 use Prim.Native.Nat.{ℕ, zero, suc, _+_, _-_, _*_, _/_, _%_, _^_, _≤_, _<_, suc-le-suc}
-use borrow.Author.Tests.{ne-eqb}
+use borrow.Author.Tests.{eq-eqb, ne-eqb}
 use native.Mathlib.Nat.{suc-ne-zero, suc-mul, mul-le-mul-right, zero-lt-suc, div-eq-of-lt, mod-eq-of-lt, mul-add-div-right, mul-add-mod-self-right, div-lt-iff-lt-mul, lt-div-mul-add, le-of-suc-le-suc}
 use native.Mathlib.Omega.{arith}
 use lib.Ieee.{Float, nan, inf, fin, binary64, fits, add, mul}
@@ -47,7 +47,7 @@ own-fits = tt
 
 time-fits : (own : Bool) (r : PeerRecord) (k len : ℕ) (penalty : Float) → Fits (timeAt own r k len penalty)
 unfolding timeAt
-time-fits own r k len penalty = cond-fits binary64 own plusZero (replyTime (r .peer) (r .inflight + k * len) penalty) own-fits (reply-fits (r .peer) (r .inflight + k * len) penalty)
+time-fits own r k len penalty = cond-fits binary64 own plusZero _ own-fits (reply-fits _ _ _)
 
 -- ---- the place p × (d + 1) + k is that of the replica p with k shards
 module _ (d p k : ℕ) (load : k ≤ d) where
@@ -85,12 +85,16 @@ module _ (n own d len : ℕ) (records : List PeerRecord) (penalty : Float) where
       (time-fits _ _ _ _ _))
 
 -- ---- a shard's length: the least number from 1 on of which d make up the size
-raised : (q : ℕ) → atLeastOne (suc q) ≡ suc q
-raised q = rw (ne-eqb (suc q) 0 (suc-ne-zero q))
+-- 0 becomes 1, and any other number stays
+pub raised : (q : ℕ) → q ≡ 0 → 1 ≡ atLeastOne q
+raised q e = rw (eq-eqb q 0 e)
+
+pub unraised : (q : ℕ) → (q ≡ 0 → ⊥) → q ≡ atLeastOne q
+unraised q h = rw (ne-eqb q 0 h)
 
 least-one : (q : ℕ) → (1 ≤ atLeastOne q) × (q ≤ atLeastOne q) × ((m : ℕ) → 1 ≤ m → q ≤ m → atLeastOne q ≤ m)
 least-one zero = (omega arith, omega arith, λ m h g. h)
-least-one (suc q) = rw (raised q) (omega arith, omega arith, λ m h g. g)
+least-one (suc q) = rw (sym (unraised (suc q) (suc-ne-zero q))) (omega arith, omega arith, λ m h g. g)
 
 pub shard-length-means : (size d : ℕ) → 0 < d → (1 ≤ shardLength size d) × (size ≤ shardLength size d * d) × ((m : ℕ) → 1 ≤ m → size ≤ m * d → shardLength size d ≤ m)
 unfolding shardLength

@@ -1,7 +1,7 @@
 -- `times::shard_length` meets its contract. Assumes nothing.
 use borrow.Author.Needs.{needs}
-use borrow.Author.Tests.{eq-eqb, ne-eqb}
 use Rattle.times.specs.Times.{shardLength}
+use Rattle.times.specs.TimeLaws.{raised, unraised}
 use Rattle.times.proofs.shard_length.Statement.{statement}
 use Rattle.times.proofs.shard_length.Tie as tie
 
@@ -9,4 +9,4 @@ pub shard-length-spec : {M : Type 1} → statement M
 unfolding shardLength
 shard-length-spec =
     tie.close
-    (tie.spec (λ c. search needs) (λ c. search needs) (λ c. search needs) (λ c. rw (eq-eqb _ _ (c .if1 .taken))) (λ c. rw (ne-eqb _ _ (c .if1 .left))))
+    (tie.spec (λ c. search needs) (λ c. search needs) (λ c. search needs) (λ c. raised _ (c .if1 .taken)) (λ c. unraised _ (c .if1 .left)))
