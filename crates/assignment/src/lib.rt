@@ -27,7 +27,18 @@ pub enum Pick {
 
 // Picks the assignment predicted to commit the soonest for a value of `size` bytes under d data shards and the total. Commits need replies from at least
 // a quorum that pass the commit rule.
-pub fn pick_assignment(n: usize, own: ReplicaId, quorum: usize, d: usize, total: TotalShards, size: u64, peers: [PeerRecord; 16], penalty: f64, faults: &[u64], rows: &mut [u64]) -> Pick
+pub fn pick_assignment(
+    n: usize,
+    own: ReplicaId,
+    quorum: usize,
+    d: usize,
+    total: TotalShards,
+    size: u64,
+    peers: [PeerRecord; 16],
+    penalty: f64,
+    faults: &[u64],
+    rows: &mut [u64],
+) -> Pick
     ensures answer { λ r. ⌜ picked r (now (rows .exit)) ≡ pickOf n (own .0) quorum d total size peers penalty (now (faults .entry)) (length (now (rows .entry))) ⌝ }
     ensures words { λ r. ⌜ now (rows .exit) ≡ planned (pickOf n (own .0) quorum d total size peers penalty (now (faults .entry)) (length (now (rows .entry)))) (now (rows .entry)) ⌝ }
 {
@@ -37,7 +48,15 @@ pub fn pick_assignment(n: usize, own: ReplicaId, quorum: usize, d: usize, total:
     }
     let mut table = [0.0f64; MOST_TIMES];
     let m = n * (d + 1);
-    times::fill_times(n, own, d, times::shard_length(size, d), peers, penalty, &mut table[..m]);
+    times::fill_times(
+        n,
+        own,
+        d,
+        times::shard_length(size, d),
+        peers,
+        penalty,
+        &mut table[..m],
+    );
     plan(n, own, quorum, d, total, faults, &table[..m], rows)
 }
 
@@ -54,7 +73,17 @@ pub fn full_copies(n: usize, d: usize, total: TotalShards, rows: &mut [u64]) -> 
     Laid::Width(copies_width(d, total))
 }
 
-fn pick_refusal(n: usize, own: ReplicaId, quorum: usize, d: usize, total: TotalShards, size: u64, peers: [PeerRecord; 16], faults: &[u64], rows: usize) -> u8
+fn pick_refusal(
+    n: usize,
+    own: ReplicaId,
+    quorum: usize,
+    d: usize,
+    total: TotalShards,
+    size: u64,
+    peers: [PeerRecord; 16],
+    faults: &[u64],
+    rows: usize,
+) -> u8
     ensures { λ r. ⌜ r ≡ pickRefusal n (own .0) quorum d total size peers (now (faults .entry)) rows ⌝ }
 {
     if !refusals::is_population(n) {
@@ -137,7 +166,16 @@ fn copy_to_all(row: u64, rows: &mut [u64])
 }
 
 // The plan of a table of times. A part: the numbers have been tested, and the table is that of n replicas.
-fn plan(n: usize, own: ReplicaId, quorum: usize, d: usize, total: TotalShards, faults: &[u64], times: &[f64], rows: &mut [u64]) -> Pick
+fn plan(
+    n: usize,
+    own: ReplicaId,
+    quorum: usize,
+    d: usize,
+    total: TotalShards,
+    faults: &[u64],
+    times: &[f64],
+    rows: &mut [u64],
+) -> Pick
     requires { ⌜ Fit d (bound total) × (n ≤ 16) × (length (now times) ≡ n * suc d) × (length (now rows) ≡ n) ⌝ }
     ensures answer { λ r. ⌜ picked r (now (rows .exit)) ≡ planOf n (own .0) quorum d total (now (faults .entry)) (now (times .entry)) ⌝ }
     ensures words { λ r. ⌜ now (rows .exit) ≡ planned (planOf n (own .0) quorum d total (now (faults .entry)) (now (times .entry))) (now (rows .entry)) ⌝ }
@@ -149,7 +187,17 @@ fn plan(n: usize, own: ReplicaId, quorum: usize, d: usize, total: TotalShards, f
 }
 
 // The plan at a time: its loads, trimmed, laid out and tested once more.
-fn plan_at(n: usize, own: ReplicaId, quorum: usize, d: usize, total: TotalShards, faults: &[u64], times: &[f64], t: f64, rows: &mut [u64]) -> Pick
+fn plan_at(
+    n: usize,
+    own: ReplicaId,
+    quorum: usize,
+    d: usize,
+    total: TotalShards,
+    faults: &[u64],
+    times: &[f64],
+    t: f64,
+    rows: &mut [u64],
+) -> Pick
     requires { ⌜ Fit d (bound total) × (n ≤ 16) × (length (now times) ≡ n * suc d) × (length (now rows) ≡ n) ⌝ }
     ensures answer { λ r. ⌜ picked r (now (rows .exit)) ≡ planAt n (own .0) quorum d total (now (faults .entry)) (now (times .entry)) (some t) ⌝ }
     ensures words { λ r. ⌜ now (rows .exit) ≡ planned (planAt n (own .0) quorum d total (now (faults .entry)) (now (times .entry)) (some t)) (now (rows .entry)) ⌝ }
@@ -158,12 +206,31 @@ fn plan_at(n: usize, own: ReplicaId, quorum: usize, d: usize, total: TotalShards
     let count = trimming::trim_order(n, own, d, times, &mut order);
     let mut loads = [0usize; 16];
     let answered = loads_at(n, own, d, times, t, &mut loads[..n]);
-    trimming::trim(n, quorum, d, total, answered, faults, &order[..count], &mut loads[..n]);
+    trimming::trim(
+        n,
+        quorum,
+        d,
+        total,
+        answered,
+        faults,
+        &order[..count],
+        &mut loads[..n],
+    );
     lay_out(n, quorum, d, total, answered, faults, t, &loads[..n], rows)
 }
 
 // What trimmed loads come to.
-fn lay_out(n: usize, quorum: usize, d: usize, total: TotalShards, answered: u64, faults: &[u64], t: f64, loads: &[usize], rows: &mut [u64]) -> Pick
+fn lay_out(
+    n: usize,
+    quorum: usize,
+    d: usize,
+    total: TotalShards,
+    answered: u64,
+    faults: &[u64],
+    t: f64,
+    loads: &[usize],
+    rows: &mut [u64],
+) -> Pick
     requires { ⌜ Fit d (bound total) × (n ≤ 16) × (length (now loads) ≡ n) × (length (now rows) ≡ n) ⌝ }
     ensures answer { λ r. ⌜ picked r (now (rows .exit)) ≡ laidOut n quorum d total (now (faults .entry)) answered t (now (loads .entry)) ⌝ }
     ensures words { λ r. ⌜ now (rows .exit) ≡ planned (laidOut n quorum d total (now (faults .entry)) answered t (now (loads .entry))) (now (rows .entry)) ⌝ }
@@ -176,7 +243,15 @@ fn lay_out(n: usize, quorum: usize, d: usize, total: TotalShards, answered: u64,
 }
 
 // The first candidate in total order that commits. One pass serves: a candidate is tested only if it stands before the best so far.
-fn first_time(n: usize, own: ReplicaId, quorum: usize, d: usize, total: TotalShards, faults: &[u64], times: &[f64]) -> Found
+fn first_time(
+    n: usize,
+    own: ReplicaId,
+    quorum: usize,
+    d: usize,
+    total: TotalShards,
+    faults: &[u64],
+    times: &[f64],
+) -> Found
     requires { ⌜ Fit d (bound total) × (n ≤ 16) × (length (now times) ≡ n * suc d) ⌝ }
     ensures { λ r. ⌜ found r ≡ firstTime n (own .0) quorum d total (now (faults .entry)) (now (times .entry)) ⌝ }
 {
@@ -190,7 +265,17 @@ fn first_time(n: usize, own: ReplicaId, quorum: usize, d: usize, total: TotalSha
 }
 
 // The better of what was found and x, if x is a candidate that commits.
-fn consider(n: usize, own: ReplicaId, quorum: usize, d: usize, total: TotalShards, faults: &[u64], times: &[f64], best: Found, x: f64) -> Found
+fn consider(
+    n: usize,
+    own: ReplicaId,
+    quorum: usize,
+    d: usize,
+    total: TotalShards,
+    faults: &[u64],
+    times: &[f64],
+    best: Found,
+    x: f64,
+) -> Found
     requires { ⌜ Fit d (bound total) × (n ≤ 16) × (length (now times) ≡ n * suc d) ⌝ }
     ensures { λ r. ⌜ found r ≡ cond (isFinite x && commitsAt n (own .0) quorum d total (now (faults .entry)) (now (times .entry)) x) (betterBy totalLe (found best) x) (found best) ⌝ }
 {
@@ -212,7 +297,16 @@ fn consider(n: usize, own: ReplicaId, quorum: usize, d: usize, total: TotalShard
 }
 
 // Whether the layout of the loads at a time commits.
-fn commits_at(n: usize, own: ReplicaId, quorum: usize, d: usize, total: TotalShards, faults: &[u64], times: &[f64], t: f64) -> bool
+fn commits_at(
+    n: usize,
+    own: ReplicaId,
+    quorum: usize,
+    d: usize,
+    total: TotalShards,
+    faults: &[u64],
+    times: &[f64],
+    t: f64,
+) -> bool
     requires { ⌜ Fit d (bound total) × (n ≤ 16) × (length (now times) ≡ n * suc d) ⌝ }
     ensures { λ r. ⌜ r ≡ commitsAt n (own .0) quorum d total (now (faults .entry)) (now (times .entry)) t ⌝ }
 {

@@ -1,8 +1,8 @@
 -- What trimming comes to: loads from which a pass keeps nothing. Assumes nothing.
 use mathlib.Core.Path.{_≡_, refl, sym, ap, _∙_}
-use mathlib.Core.Bool.{Bool, true, false, cond, _&&_, _||_, and-eq-true-iff, true≢false}
+use mathlib.Core.Bool.{Bool, true, false, cond, _||_, and-eq-true-iff, true≢false}
 use mathlib.Core.List.{List, [], _∷_}
-use Prim.Native.Nat.{ℕ, zero, suc, _+_, _-_, _≤_, _<_}
+use Prim.Native.Nat.{ℕ, zero, suc, _-_, _≤_, _<_}
 use native.Mathlib.Nat.{le-refl}
 use native.Mathlib.Omega.{arith}
 use lib.Dec.{ltb}
