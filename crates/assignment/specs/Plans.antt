@@ -30,22 +30,22 @@ pub record Plan : Type 0 where
   pub width : ℕ
   pub rows : List ℕ
 
+-- what trimmed loads come to at the time t: laid out and tested once more
+abbrev pub laidOut : ℕ → ℕ → ℕ → TotalShards → List ℕ → ℕ → Float → List ℕ → Outcome (Option Plan)
+laidOut n quorum d total faults answered t loads =
+    cond (layoutCommits n quorum d total answered faults loads)
+    (accepted (some (record { time = t; width = widthOf d total loads; rows = rowsOf d total loads })))
+    (refused TRIMMED)
+
 -- ---- the plan of a table of times
 module _ (n own quorum d : ℕ) (total : TotalShards) (faults : List ℕ) (times : List Float) where
   -- the loads of a time, trimmed
   unfoldable pub loadsFor : Float → List ℕ
   loadsFor t = trimmed (layoutCommits n quorum d total (answeredAt own d times t n) faults) (trimOrder n own d times) (loadsAt own d times t n)
 
-  -- what trimmed loads come to: laid out and tested once more
-  abbrev pub laidOut : ℕ → Float → List ℕ → Outcome (Option Plan)
-  laidOut answered t loads =
-      cond (layoutCommits n quorum d total answered faults loads)
-      (accepted (some (record { time = t; width = widthOf d total loads; rows = rowsOf d total loads })))
-      (refused TRIMMED)
-
   abbrev pub planAt : Option Float → Outcome (Option Plan)
   planAt none = accepted none
-  planAt (some t) = laidOut (answeredAt own d times t n) t (loadsFor t)
+  planAt (some t) = laidOut n quorum d total faults (answeredAt own d times t n) t (loadsFor t)
 
   unfoldable pub planOf : Outcome (Option Plan)
   planOf = planAt (firstTime n own quorum d total faults times)
