@@ -52,9 +52,12 @@ module _ (n own quorum d : ℕ) (total : TotalShards) (faults : List ℕ) (times
 
 -- ---- the entries
 
--- p is a peer with too many bytes in flight
+-- p is a peer, and too many bytes are in flight to it
+abbrev pub isOverfull : ℕ → ℕ → PeerRecord → Bool
+isOverfull own p told = not (eqb p own) && not (isInFlight (told .inflight))
+
 abbrev pub overfull : ℕ → List PeerRecord → ℕ → Bool
-overfull own peers p = not (eqb p own) && not (isInFlight (getD peers p silent .inflight))
+overfull own peers p = isOverfull own p (getD peers p silent)
 
 unfoldable pub peersFit : ℕ → ℕ → List PeerRecord → Bool
 peersFit n own peers = not (someBelow (overfull own peers) n)

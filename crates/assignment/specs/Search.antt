@@ -13,7 +13,7 @@ use Rattle.bitmap.specs.Mask.{maskBelow}
 use Rattle.floats.specs.Floats.{isFinite, totalLe}
 use Rattle.layout.specs.declared.TotalShards.{TotalShards}
 use Rattle.layout.specs.Layout.{layoutCommits}
-use Rattle.times.specs.Times.{timeIn}
+use Rattle.times.specs.Times.{never}
 
 -- ---- candidates
 
@@ -23,10 +23,15 @@ candidates [] = []
 candidates (x ∷ xs) = cond (isFinite x) (x ∷ candidates xs) (candidates xs)
 
 -- ---- loads at a time
+
+-- the time k places from a place on is at most t, as numbers
+abbrev pub inTimeFrom : List Float → Float → ℕ → ℕ → Bool
+inTimeFrom times t from k = le (getD times (from + k) never) t
+
 module _ (own d : ℕ) (times : List Float) (t : Float) where
-  -- with k shards p replies by the time t: at most t as numbers
+  -- with k shards p replies by the time t: `timeIn d times p k` is at most t
   abbrev pub inTime : ℕ → ℕ → Bool
-  inTime p k = le (timeIn d times p k) t
+  inTime p = inTimeFrom times t (p * suc d)
 
   -- how many loads, from 0 on in an unbroken run, are in time; our own are all
   unfoldable pub runAt : ℕ → ℕ

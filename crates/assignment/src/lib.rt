@@ -4,11 +4,12 @@ ghost use mathlib.Core.Bool.{cond, _&&_};
 ghost use mathlib.Core.Option.{some};
 ghost use Prim.Native.Nat.{suc, _+_, _*_, _<_, _≤_};
 ghost use lib.ListN.{length, replicate};
+ghost use Rattle.lists.specs.Below.{runOf};
 ghost use Rattle.lists.specs.First.{betterBy};
 ghost use Rattle.floats.specs.Floats.{isFinite, totalLe, found};
 ghost use Rattle.layout.specs.Layout.{Fit, bound, laid};
-ghost use Rattle.assignment.specs.Search.{runAt, answeredAt, loadsAt, commitsAt, firstTime};
-ghost use Rattle.assignment.specs.Plans.{laidOut, planAt, planOf, peersFit, pickRefusal, picked, pickOf, planned, copiesRefusal, copiesWidth, fullCopiesOf, copiesWritten};
+ghost use Rattle.assignment.specs.Search.{inTimeFrom, runAt, answeredAt, loadsAt, commitsAt, firstTime};
+ghost use Rattle.assignment.specs.Plans.{laidOut, planAt, planOf, isOverfull, peersFit, pickRefusal, picked, pickOf, planned, copiesRefusal, copiesWidth, fullCopiesOf, copiesWritten};
 use bitmap::ReplicaId;
 use floats::Found;
 use layout::Laid;
@@ -121,14 +122,23 @@ fn peers_fit(n: usize, own: ReplicaId, peers: [PeerRecord; 16]) -> bool
     let mut p = 0;
     while p < n {
         let told = peers[p];
-        if p != own.0 {
-            if !refusals::is_in_flight(told.inflight) {
-                return false;
-            }
+        if is_overfull(own, ReplicaId(p), told) {
+            return false;
+        } else {
+            p += 1;
         }
-        p += 1;
     }
     true
+}
+
+// Whether it is a peer's record, and too many bytes are in flight to it.
+fn is_overfull(own: ReplicaId, p: ReplicaId, told: PeerRecord) -> bool
+    ensures { λ r. ⌜ r ≡ isOverfull (own .0) (p .0) told ⌝ }
+{
+    if p.0 == own.0 {
+        return false;
+    }
+    !refusals::is_in_flight(told.inflight)
 }
 
 fn copies_refusal(n: usize, d: usize, total: TotalShards, rows: usize) -> u8
@@ -344,7 +354,14 @@ fn run_at(own: ReplicaId, d: usize, times: &[f64], t: f64, p: ReplicaId) -> usiz
     if p.0 == own.0 {
         return d + 1;
     }
-    let from = p.0 * (d + 1);
+    run_from(d, times, p.0 * (d + 1), t)
+}
+
+// How many times from a place on, in an unbroken run of at most d + 1, are at most t.
+fn run_from(d: usize, times: &[f64], from: usize, t: f64) -> usize
+    requires { ⌜ (d ≤ 64) × (from + d < length (now times)) ⌝ }
+    ensures { λ r. ⌜ r ≡ runOf (inTimeFrom (now (times .entry)) t from) (suc d) ⌝ }
+{
     let mut k = 0;
     while k <= d {
         if times[from + k] <= t {

@@ -11,8 +11,8 @@ use native.Mathlib.Numerals.{add-one}
 use native.Mathlib.Omega.{arith}
 use lib.ListN.{length, take, set, length-append, length-drop, drop-of-length-le}
 use lib.Seq.{set-append-seam, drop-cons, take-suc-set}
-use Rattle.lists.specs.Below.{thoseBelow, runFrom, eachBelow, front}
-use Rattle.lists.specs.BelowLaws.{each-below-length}
+use Rattle.lists.specs.Below.{someBelow, thoseBelow, runFrom, eachBelow, front}
+use Rattle.lists.specs.BelowLaws.{some-below-means, each-below-length}
 
 -- ---- one list at the front of another
 module _ (xs l : List ℕ) where
@@ -135,6 +135,9 @@ module _ (f : ℕ → Bool) (m k : ℕ) where
   abbrev pub Running : Type 0
   Running = runFrom f (m - k) k ≡ runFrom f m 0
 
+  pub run-starts : k ≡ 0 → Running
+  run-starts e = let z : m - k ≡ m = omega arith in rw (z, e)
+
   here : k < m → m - k ≡ suc (m - (k + 1))
   here h = omega arith
 
@@ -149,3 +152,19 @@ module _ (f : ℕ → Bool) (m k : ℕ) where
   pub run-done : m ≤ k → Running → k ≡ runFrom f m 0
   unfolding runFrom
   run-done h e = let z : m - k ≡ 0 = omega arith in sym (ap (λ (j : ℕ). runFrom f j k) z) ∙ e
+
+-- ---- a loop up to n that ends at the first number that passes
+module _ (f : ℕ → Bool) (k : ℕ) where
+  pub some-none : someBelow f 0 ≡ false
+  unfolding someBelow
+  some-none = refl
+
+  pub some-miss : (r : Bool) → someBelow f k ≡ false → r ≡ f k → r ≡ false → someBelow f (k + 1) ≡ false
+  unfolding someBelow
+  some-miss r e q t = rw (add-one, sym q ∙ t, e)
+
+  pub some-hit : (n : ℕ) (r : Bool) → k < n → r ≡ f k → r ≡ true → someBelow f n ≡ true
+  some-hit n r h q t = some-below-means f n .1 (record { number = k; small = h; passes = sym q ∙ t })
+
+  pub some-spent : (n : ℕ) → k ≤ n → n ≤ k → someBelow f k ≡ false → someBelow f n ≡ false
+  some-spent n h g e = let q : k ≡ n = omega arith in rw q at e

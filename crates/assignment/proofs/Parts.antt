@@ -1,0 +1,69 @@
+-- How the parts of a plan come to what the definitions say. The premises are the fields of a need's record. Assumes nothing.
+use mathlib.Core.Path.{_≡_, refl, sym, ap, _∙_}
+use mathlib.Core.Bool.{Bool, true, false, not}
+use mathlib.Core.List.{List, _++_, append-nil}
+use mathlib.Core.Option.{some}
+use Prim.Native.Nat.{ℕ, suc, _+_, _-_, _*_, _≤_, _<_}
+use native.Mathlib.Nat.{le-refl}
+use native.Mathlib.Numerals.{add-one}
+use native.Mathlib.Omega.{arith}
+use lib.Ieee.{Float}
+use lib.ListN.{length, take, set}
+use borrow.Author.Tests.{lt-ltb, ne-eqb, not-true, not-false}
+use Rattle.lists.specs.Below.{runOf, eachBelow, front}
+use Rattle.lists.proofs.BelowLoops.{front-all, each-more}
+use Rattle.bitmap.specs.Mask.{withBit, maskBelow}
+use Rattle.bitmap.specs.WidthLaws.{mask-yes, mask-no}
+use Rattle.refusals.specs.Numbers.{TRIMMED}
+use Rattle.refusals.specs.Outcome.{refused, accepted}
+use Rattle.layout.specs.declared.TotalShards.{TotalShards}
+use Rattle.layout.specs.Layout.{layoutCommits, widthOf, rowsOf}
+use Rattle.layout.specs.LayoutLaws.{rows-length}
+use Rattle.times.specs.TimeLaws.{place-within}
+use Rattle.assignment.specs.Search.{inTimeFrom, runAt, answers, loadAt}
+use Rattle.assignment.specs.Plans.{Plan, laidOut, planned}
+
+-- ---- `run_at`: the place where a peer's times begin
+pub begins : (p d : ℕ) → p * (d + 1) ≡ p * suc d
+begins p d = ap (λ (k : ℕ). p * k) (add-one d)
+
+module _ (own d : ℕ) (times : List Float) (t : Float) (p : ℕ) where
+  pub peer-run : {r : ℕ} → (p ≡ own → ⊥) → r ≡ runOf (inTimeFrom times t (p * (d + 1))) (suc d) → r ≡ runAt own d times t p
+  unfolding runAt
+  peer-run n e = e ∙ ap (λ (k : ℕ). runOf (inTimeFrom times t k) (suc d)) (begins p d) ∙ rw (ne-eqb p own n)
+
+-- ---- `lay_out`
+module _ (n quorum d : ℕ) (total : TotalShards) (faults : List ℕ) (answered : ℕ) (t : Float) (loads rows : List ℕ) {r : Bool} (e : r ≡ layoutCommits n quorum d total answered faults loads) where
+  pub lost : not r ≡ true → (refused TRIMMED ≡ laidOut n quorum d total faults answered t loads) × (rows ≡ planned (laidOut n quorum d total faults answered t loads) rows)
+  lost u = let f = sym e ∙ not-true r u in (rw f, rw f)
+
+  pub laid-plan : not r ≡ false → {w : ℕ} {after : List ℕ} → length loads ≡ n → length rows ≡ n → w ≡ widthOf d total loads → after ≡ front (rowsOf d total loads) rows
+      → (accepted (some (record { time = t; width = w; rows = after })) ≡ laidOut n quorum d total faults answered t loads) × (after ≡ planned (laidOut n quorum d total faults answered t loads) rows)
+  laid-plan u a b q s =
+      let f = sym e ∙ not-false r u in
+      let g = s ∙ front-all (rowsOf d total loads) rows (omega (arith, rows-length d total loads, a, b)) in
+      (rw (f, q, g), rw f g)
+
+-- ---- `loads_at`: l has the loads below p, and m is the mask of those below p that answer
+module _ (own d : ℕ) (times : List Float) (t : Float) (p : ℕ) (l : List ℕ) (m r : ℕ) (loaded : take p l ≡ eachBelow (loadAt own d times t) p)
+    (masked : m ≡ maskBelow (answers own d times t) p) (e : r ≡ runAt own d times t p) (h : p < length l) where
+  abbrev Next : List ℕ → ℕ → Type 0
+  Next l′ m′ = (take (p + 1) l′ ≡ eachBelow (loadAt own d times t) (p + 1)) × (m′ ≡ maskBelow (answers own d times t) (p + 1))
+
+  -- it does not answer
+  pub next-silent : {l′ : List ℕ} {m′ : ℕ} → r ≡ 0 → l′ ≡ set l p 0 → m′ ≡ m → Next l′ m′
+  next-silent z f g = (
+    rw f (each-more (loadAt own d times t) l p loaded 0 h (omega (arith, e, z))),
+    g ∙ masked ∙ sym (mask-no (answers own d times t) p (rw (sym e ∙ z))),
+  )
+
+  -- it does
+  pub next-answers : {l′ : List ℕ} {m′ : ℕ} → (r ≡ 0 → ⊥) → l′ ≡ set l p (r - 1) → m′ ≡ withBit m p → Next l′ m′
+  next-answers z f g = (
+    rw f (each-more (loadAt own d times t) l p loaded (r - 1) h (ap (λ (k : ℕ). k - 1) e)),
+    g ∙ ap (λ (k : ℕ). withBit k p) masked ∙ sym (mask-yes (answers own d times t) p (lt-ltb 0 (runAt own d times t p) (omega (arith, e)))),
+  )
+
+-- the place of a replica's last time is within the table
+pub row-inside : (n d p L : ℕ) → L ≡ n * suc d → p < n → p * suc d + d < L
+row-inside n d p L e h = let k = place-within d p d (le-refl d) n h in omega (arith, k)
