@@ -1,20 +1,23 @@
 -- What a layout is: its width is one for the data shards and within its bound; its rows are rows of that width, one for each load, and each with as many
 -- different shards as its load; and what it means that it commits. Assumes nothing.
-use mathlib.Core.Path.{_≡_, refl, ap, ap₂, _∙_}
+use mathlib.Core.Path.{_≡_, refl, sym, ap, ap₂, _∙_}
 use mathlib.Core.Logic.{_↔_}
 use mathlib.Core.Bool.{Bool, true, false, cond}
 use mathlib.Core.List.{List, [], _∷_, _++_}
-use Prim.Native.Nat.{ℕ, _+_, _*_, _^_, _≤_, _<_, min, max}
+use Prim.Native.Nat.{ℕ, suc, _+_, _*_, _%_, _^_, _≤_, _<_, min, max}
+use native.Mathlib.Nat.{le-refl, mod-eq-of-lt}
+use native.Mathlib.Decide.{le-ind}
 use native.Mathlib.Omega.{arith}
 use lib.Dec.{leb, ltb}
 use lib.ListN.{length, getD, take}
 use lib.Pow.{pow-mono, ones-lt}
+use lib.Seq.{take-suc, take-length}
 use borrow.Author.Tests.{leb-true, leb-false, ltb-true, ltb-false, lt-ltb}
 use Rattle.lists.specs.All.{all}
 use Rattle.lists.specs.BelowLaws.{each-below-length, each-below-at, each-below-all}
 use Rattle.bitmap.specs.Mask.{bit, count, run, runModulo}
 use Rattle.bitmap.specs.Members.{Many}
-use Rattle.bitmap.specs.RunLaws.{run-all}
+use Rattle.bitmap.specs.RunLaws.{run-all, gather-means}
 use Rattle.bitmap.specs.WidthLaws.{run-below}
 use Rattle.bitmap.specs.RunCounts.{run-count, run-modulo-count}
 use Rattle.refusals.specs.Outcome.{accepted}
@@ -39,6 +42,15 @@ dealt-le d k = go (ltb k d) refl
 pub partial-more : (d : ℕ) (ks : List ℕ) (k : ℕ) → partial d (ks ++ (k ∷ [])) ≡ partial d ks + dealt d k
 partial-more d [] k = omega arith
 partial-more d (j ∷ js) k = omega (arith, partial-more d js k)
+
+-- up to the replica s, and with it
+pub partial-upto : (d : ℕ) (loads : List ℕ) (s : ℕ) → s < length loads → partial d (take (suc s) loads) ≡ partial d (take s loads) + dealt d (getD loads s 0)
+partial-upto d loads s l = ap (partial d) (take-suc loads s 0 l) ∙ partial-more d (take s loads) (getD loads s 0)
+
+partial-mono : (d : ℕ) (loads : List ℕ) (i j : ℕ) → i ≤ j → j ≤ length loads → partial d (take i loads) ≤ partial d (take j loads)
+partial-mono d loads i j h =
+    le-ind (λ (m : ℕ). m ≤ length loads → partial d (take i loads) ≤ partial d (take m loads)) (λ l. le-refl (partial d (take i loads)))
+    (λ m g ih l. omega (arith, ih (omega arith), partial-upto d loads m (omega arith))) j h
 
 pub partial-le : (d b : ℕ) (ks : List ℕ) → d ≤ b → partial d ks ≤ b * length ks
 partial-le d b [] h = omega arith
@@ -131,6 +143,32 @@ module _ (d : ℕ) (total : TotalShards) (loads : List ℕ) where
     pub rows-count : (s : ℕ) → s < length loads → count (rowIn (rowsOf d total loads) s) ≡ min (getD loads s 0) d
     rows-count s l =
         ap count (row-at s l) ∙ row-count d (widthOf d total loads) (partial d (take s loads)) (getD loads s 0) (width-fits d total loads h)
+
+-- ---- shards that are dealt: where they fit the width, no two rows of loads below d share one
+
+-- of a row that does not wrap round
+dealt-from : (d w offset k s : ℕ) → k < d → offset + k ≤ w → bit (rowFor d w offset k) s ≡ 1 → (offset ≤ s) × (s < offset + k)
+unfolding rowFor
+dealt-from d w offset k s h l e =
+    let a = gather-means (λ (i : ℕ). (offset + i) % w) s k .0 (rw (lt-ltb k d h) at e) in
+    let m : (offset + a .place) % w ≡ offset + a .place = mod-eq-of-lt (omega (arith, a .inside)) in
+    (omega (arith, a .here), omega (arith, a .here, a .inside))
+
+pub rows-apart : (d : ℕ) (total : TotalShards) (loads : List ℕ) → partial d loads ≤ widthOf d total loads
+    → (i j s : ℕ) → i < j → j < length loads → getD loads i 0 < d → getD loads j 0 < d
+    → bit (rowIn (rowsOf d total loads) i) s ≡ 1 → bit (rowIn (rowsOf d total loads) j) s ≡ 1 → ⊥
+rows-apart d total loads fits i j s h l p q e f =
+    let w = widthOf d total loads in
+    let whole : partial d (take (length loads) loads) ≤ w = rw take-length fits in
+    let a = partial-upto d loads i (omega arith) in
+    let b = partial-upto d loads j l in
+    let x = partial-mono d loads (suc i) j h (omega arith) in
+    let y = partial-mono d loads (suc j) (length loads) l (le-refl (length loads)) in
+    let k = ap (λ (t : Bool). cond t (getD loads i 0) 0) (lt-ltb (getD loads i 0) d p) in
+    let m = ap (λ (t : Bool). cond t (getD loads j 0) 0) (lt-ltb (getD loads j 0) d q) in
+    let u = dealt-from d w (partial d (take i loads)) (getD loads i 0) s p (omega arith) (ap (λ (r : ℕ). bit r s) (sym (row-at d total loads i (omega arith))) ∙ e) in
+    let v = dealt-from d w (partial d (take j loads)) (getD loads j 0) s q (omega arith) (ap (λ (r : ℕ). bit r s) (sym (row-at d total loads j l)) ∙ f) in
+    omega arith
 
 -- ---- the loads of those that answer
 module _ (answered : ℕ) (loads : List ℕ) where
