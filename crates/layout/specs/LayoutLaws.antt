@@ -1,5 +1,5 @@
--- What a layout is: its width is one for the data shards and within its bound; its rows are rows of that width, one for each load, and each with as many
--- different shards as its load; and what it means that it commits. Assumes nothing.
+-- What a layout is: its width is one for the data shards and within its bound; its rows are rows of that width, one for each load, each with as many
+-- different shards as its load, and apart where the width has room; and what it means that it commits. Assumes nothing.
 use mathlib.Core.Path.{_≡_, refl, sym, ap, ap₂, _∙_}
 use mathlib.Core.Logic.{_↔_}
 use mathlib.Core.Bool.{Bool, true, false, cond}
@@ -131,7 +131,7 @@ module _ (d : ℕ) (total : TotalShards) (loads : List ℕ) where
   row-at s l = each-below-at (rowAt d (widthOf d total loads) loads) (length loads) s 0 l
 
   module _ (h : Fit d (bound total)) where
-    -- they pass the checks of `covers`, for 16 and for 17
+    -- of shards below the width: with `rows-length`, they pass the checks of `covers` for 16 and 17
     pub rows-below : all (isRow (widthOf d total loads)) (rowsOf d total loads) ≡ true
     unfolding rowsOf
     rows-below =
