@@ -1,22 +1,33 @@
--- What a layout is. Assumes nothing.
-use mathlib.Core.Path.{_≡_, refl}
+-- What a layout is: its width is one for the data shards and within its bound; its rows are rows of that width, one for each load, each with as many
+-- different shards as its load, and apart where the width has room; and what it means that it commits. Assumes nothing.
+use mathlib.Core.Path.{_≡_, refl, sym, ap, ap₂, _∙_}
+use mathlib.Core.Logic.{_↔_}
 use mathlib.Core.Bool.{Bool, true, false, cond}
 use mathlib.Core.List.{List, [], _∷_, _++_}
-use Prim.Native.Nat.{ℕ, _+_, _*_, _^_, _≤_, min, max}
+use Prim.Native.Nat.{ℕ, suc, _+_, _*_, _%_, _^_, _≤_, _<_, min, max}
+use native.Mathlib.Nat.{le-refl, mod-eq-of-lt}
+use native.Mathlib.Decide.{le-ind}
 use native.Mathlib.Omega.{arith}
 use lib.Dec.{leb, ltb}
 use lib.ListN.{length, getD, take}
 use lib.Pow.{pow-mono, ones-lt}
-use borrow.Author.Tests.{leb-true, leb-false, ltb-true, lt-ltb}
+use lib.Seq.{take-suc, take-length}
+use borrow.Author.Tests.{leb-true, leb-false, ltb-true, ltb-false, lt-ltb}
 use Rattle.lists.specs.All.{all}
-use Rattle.lists.specs.BelowLaws.{each-below-length, each-below-all}
-use Rattle.bitmap.specs.Mask.{run, runModulo}
-use Rattle.bitmap.specs.RunLaws.{run-all}
+use Rattle.lists.specs.BelowLaws.{each-below-length, each-below-at, each-below-all}
+use Rattle.bitmap.specs.Mask.{bit, count, run, runModulo}
+use Rattle.bitmap.specs.Members.{Many}
+use Rattle.bitmap.specs.RunLaws.{run-all, gather-means}
 use Rattle.bitmap.specs.WidthLaws.{run-below}
+use Rattle.bitmap.specs.RunCounts.{run-count, run-modulo-count}
+use Rattle.refusals.specs.Outcome.{accepted}
+use Rattle.refusals.specs.OutcomeLaws.{accepted-means}
 use Rattle.refusals.specs.Limits.{isRow}
+use Rattle.coverage.specs.Coverage.{rowIn}
+use Rattle.coverage.specs.CoverageLaws.{Survives, commits-means}
 use Rattle.layout.specs.declared.TotalShards.{TotalShards}
 use Rattle.layout.specs.declared.TotalShards.the-variants.{Exactly, AtMost}
-use Rattle.layout.specs.Layout.{Fit, bound, dealt, partial, smaller, larger, widthOf, rowFor, rowAt, rowsOf, heardLoad, heardLoads}
+use Rattle.layout.specs.Layout.{Fit, bound, dealt, partial, smaller, larger, widthOf, rowFor, rowAt, rowsOf, layoutCommits, heardLoad, heardLoads, rowsRefusal, layoutRowsOf, commitsRefusal, layoutCommitsOf}
 
 -- ---- what is dealt
 
@@ -27,10 +38,19 @@ dealt-le d k = go (ltb k d) refl
     go true q = omega (arith, ltb-true k d q)
     go false q = omega arith
 
--- one load more
+-- with one load more
 pub partial-more : (d : ℕ) (ks : List ℕ) (k : ℕ) → partial d (ks ++ (k ∷ [])) ≡ partial d ks + dealt d k
 partial-more d [] k = omega arith
 partial-more d (j ∷ js) k = omega (arith, partial-more d js k)
+
+-- up to the replica s, and with it
+pub partial-upto : (d : ℕ) (loads : List ℕ) (s : ℕ) → s < length loads → partial d (take (suc s) loads) ≡ partial d (take s loads) + dealt d (getD loads s 0)
+partial-upto d loads s l = ap (partial d) (take-suc loads s 0 l) ∙ partial-more d (take s loads) (getD loads s 0)
+
+partial-mono : (d : ℕ) (loads : List ℕ) (i j : ℕ) → i ≤ j → j ≤ length loads → partial d (take i loads) ≤ partial d (take j loads)
+partial-mono d loads i j h =
+    le-ind (λ (m : ℕ). m ≤ length loads → partial d (take i loads) ≤ partial d (take m loads)) (λ l. le-refl (partial d (take i loads)))
+    (λ m g ih l. omega (arith, ih (omega arith), partial-upto d loads m (omega arith))) j h
 
 pub partial-le : (d b : ℕ) (ks : List ℕ) → d ≤ b → partial d ks ≤ b * length ks
 partial-le d b [] h = omega arith
@@ -57,45 +77,131 @@ pub width-exactly : (d w : ℕ) (loads : List ℕ) → widthOf d (Exactly w) loa
 unfolding widthOf
 width-exactly d w loads = refl
 
--- under a ceiling it is what is dealt, or d if that is more
+-- under a ceiling it is as wide as what is dealt, and as d, asks
 pub width-at-most : (d w : ℕ) (loads : List ℕ) → widthOf d (AtMost w) loads ≡ min (max (partial d loads) d) w
 unfolding widthOf
 width-at-most d w loads = omega (arith, smaller-is (larger (partial d loads) d) w, larger-is (partial d loads) d)
 
--- the width is one for the data shards, and at most its bound
-pub width-fits : (d : ℕ) (total : TotalShards) (loads : List ℕ) → Fit d (bound total) → Fit d (widthOf d total loads)
-width-fits d (Exactly w) loads h = rw width-exactly h
-width-fits d (AtMost w) loads h = let e = width-at-most d w loads in (omega arith, omega arith, omega arith)
+module _ (d : ℕ) (total : TotalShards) (loads : List ℕ) where
+  -- at most its bound
+  pub width-le : widthOf d total loads ≤ bound total
+  width-le = go total
+    where
+      go : (total : TotalShards) → widthOf d total loads ≤ bound total
+      go (Exactly w) = omega (arith, width-exactly d w loads)
+      go (AtMost w) = omega (arith, width-at-most d w loads)
 
-pub width-le : (d : ℕ) (total : TotalShards) (loads : List ℕ) → widthOf d total loads ≤ bound total
-width-le d (Exactly w) loads = omega (arith, width-exactly d w loads)
-width-le d (AtMost w) loads = omega (arith, width-at-most d w loads)
+  -- and one for the data shards, where the bound is
+  pub width-fits : Fit d (bound total) → Fit d (widthOf d total loads)
+  width-fits h = (h .0, go total (h .1), omega (arith, width-le))
+    where
+      go : (total : TotalShards) → d ≤ bound total → d ≤ widthOf d total loads
+      go (Exactly w) l = omega (arith, width-exactly d w loads)
+      go (AtMost w) l = omega (arith, width-at-most d w loads)
+
+-- ---- a row
+module _ (d w offset k : ℕ) (h : Fit d w) where
+  -- of shards below the width
+  row-below : isRow w (rowFor d w offset k) ≡ true
+  unfolding rowFor
+  row-below = go (ltb k d)
+    where
+      go : (b : Bool) → isRow w (cond b (runModulo w offset k) (run 0 d)) ≡ true
+      go true = run-below w offset k (omega arith)
+      go false = lt-ltb (run 0 d) (2 ^ w) (rw run-all (omega (arith, ones-lt d, pow-mono (h .1))))
+
+  -- it has k different shards, and d where k is more
+  pub row-count : count (rowFor d w offset k) ≡ min k d
+  unfolding rowFor
+  row-count = go (ltb k d) refl
+    where
+      go : (b : Bool) → ltb k d ≡ b → count (cond b (runModulo w offset k) (run 0 d)) ≡ min k d
+      go true q = let l = ltb-true k d q in omega (arith, run-modulo-count w offset k (omega arith))
+      go false q = omega (arith, ltb-false k d q, run-count 0 d)
 
 -- ---- the rows
-
 module _ (d : ℕ) (total : TotalShards) (loads : List ℕ) where
   -- one for each load
   pub rows-length : length (rowsOf d total loads) ≡ length loads
   unfolding rowsOf
   rows-length = each-below-length (rowAt d (widthOf d total loads) loads) (length loads)
 
--- of shards below the width
-row-below : (d w offset k : ℕ) → Fit d w → isRow w (rowFor d w offset k) ≡ true
-unfolding rowFor
-row-below d w offset k h = go (ltb k d)
-  where
-    go : (b : Bool) → isRow w (cond b (runModulo w offset k) (run 0 d)) ≡ true
-    go true = run-below w offset k (omega arith)
-    go false = lt-ltb (run 0 d) (2 ^ w) (rw run-all (omega (arith, ones-lt d, pow-mono (h .1))))
-
-module _ (d : ℕ) (total : TotalShards) (loads : List ℕ) (h : Fit d (bound total)) where
-  pub rows-below : all (isRow (widthOf d total loads)) (rowsOf d total loads) ≡ true
+  pub row-at : (s : ℕ) → s < length loads → rowIn (rowsOf d total loads) s ≡ rowAt d (widthOf d total loads) loads s
   unfolding rowsOf
-  rows-below =
-      let w = widthOf d total loads in
-      each-below-all (rowAt d w loads) (isRow w) 0 (length loads) (λ s l. row-below d w (partial d (take s loads)) (getD loads s 0) (width-fits d total loads h))
+  row-at s l = each-below-at (rowAt d (widthOf d total loads) loads) (length loads) s 0 l
+
+  module _ (h : Fit d (bound total)) where
+    -- of shards below the width: with `rows-length`, they pass the checks of `covers` for 16 and 17
+    pub rows-below : all (isRow (widthOf d total loads)) (rowsOf d total loads) ≡ true
+    unfolding rowsOf
+    rows-below =
+        let w = widthOf d total loads in
+        each-below-all (rowAt d w loads) (isRow w) 0 (length loads)
+        (λ s l. row-below d w (partial d (take s loads)) (getD loads s 0) (width-fits d total loads h))
+
+    -- a replica has as many different shards as its load, and d where that is more
+    pub rows-count : (s : ℕ) → s < length loads → count (rowIn (rowsOf d total loads) s) ≡ min (getD loads s 0) d
+    rows-count s l =
+        ap count (row-at s l) ∙ row-count d (widthOf d total loads) (partial d (take s loads)) (getD loads s 0) (width-fits d total loads h)
+
+-- ---- shards that are dealt: where they fit the width, no two rows of loads below d share one
+
+-- of a row that does not wrap round
+dealt-from : (d w offset k s : ℕ) → k < d → offset + k ≤ w → bit (rowFor d w offset k) s ≡ 1 → (offset ≤ s) × (s < offset + k)
+unfolding rowFor
+dealt-from d w offset k s h l e =
+    let a = gather-means (λ (i : ℕ). (offset + i) % w) s k .0 (rw (lt-ltb k d h) at e) in
+    let m : (offset + a .place) % w ≡ offset + a .place = mod-eq-of-lt (omega (arith, a .inside)) in
+    (omega (arith, a .here), omega (arith, a .here, a .inside))
+
+pub rows-apart : (d : ℕ) (total : TotalShards) (loads : List ℕ) → partial d loads ≤ widthOf d total loads
+    → (i j s : ℕ) → i < j → j < length loads → getD loads i 0 < d → getD loads j 0 < d
+    → bit (rowIn (rowsOf d total loads) i) s ≡ 1 → bit (rowIn (rowsOf d total loads) j) s ≡ 1 → ⊥
+rows-apart d total loads fits i j s h l p q e f =
+    let w = widthOf d total loads in
+    let whole : partial d (take (length loads) loads) ≤ w = rw take-length fits in
+    let a = partial-upto d loads i (omega arith) in
+    let b = partial-upto d loads j l in
+    let x = partial-mono d loads (suc i) j h (omega arith) in
+    let y = partial-mono d loads (suc j) (length loads) l (le-refl (length loads)) in
+    let k = ap (λ (t : Bool). cond t (getD loads i 0) 0) (lt-ltb (getD loads i 0) d p) in
+    let m = ap (λ (t : Bool). cond t (getD loads j 0) 0) (lt-ltb (getD loads j 0) d q) in
+    let u = dealt-from d w (partial d (take i loads)) (getD loads i 0) s p (omega arith) (ap (λ (r : ℕ). bit r s) (sym (row-at d total loads i (omega arith))) ∙ e) in
+    let v = dealt-from d w (partial d (take j loads)) (getD loads j 0) s q (omega arith) (ap (λ (r : ℕ). bit r s) (sym (row-at d total loads j l)) ∙ f) in
+    omega arith
 
 -- ---- the loads of those that answer
-pub heard-length : (answered : ℕ) (loads : List ℕ) → length (heardLoads answered loads) ≡ length loads
-unfolding heardLoads
-heard-length answered loads = each-below-length (heardLoad answered loads) (length loads)
+module _ (answered : ℕ) (loads : List ℕ) where
+  pub heard-length : length (heardLoads answered loads) ≡ length loads
+  unfolding heardLoads
+  heard-length = each-below-length (heardLoad answered loads) (length loads)
+
+  pub heard-at : (s : ℕ) → s < length loads → getD (heardLoads answered loads) s 0 ≡ heardLoad answered loads s
+  unfolding heardLoads
+  heard-at s l = each-below-at (heardLoad answered loads) (length loads) s 0 l
+
+-- ---- the entries
+
+-- `layout_rows` answers w exactly if nothing refuses, and w is the width
+pub layout-rows-means : (n d : ℕ) (total : TotalShards) (loads : List ℕ) (rows w : ℕ)
+    → (layoutRowsOf n d total loads rows ≡ accepted w) ↔ ((rowsRefusal n d total (length loads) rows ≡ 0) × (widthOf d total loads ≡ w))
+unfolding layoutRowsOf
+layout-rows-means n d total loads rows w = accepted-means (rowsRefusal n d total (length loads) rows) (widthOf d total loads) w
+
+-- `layout_commits` answers w and yes exactly if nothing refuses, w is the width, a quorum of different replicas answer, and without any one listed set there
+-- are d different shards, each in the row of one that answers outside it
+pub layout-commits-means : (n quorum d : ℕ) (total : TotalShards) (answered : ℕ) (loads faults : List ℕ) (rows w : ℕ)
+    → (layoutCommitsOf n quorum d total answered loads faults rows ≡ accepted (w, true))
+    ↔ ((commitsRefusal n quorum d total answered (length loads) faults rows ≡ 0)
+    × (widthOf d total (heardLoads answered loads) ≡ w)
+    × Many quorum (λ s. bit answered s ≡ 1)
+    × Survives n d answered (rowIn (rowsOf d total (heardLoads answered loads))) faults)
+unfolding layoutCommitsOf layoutCommits
+layout-commits-means n quorum d total answered loads faults rows w =
+    let heard = heardLoads answered loads in
+    let k = commitsRefusal n quorum d total answered (length loads) faults rows in
+    let m = accepted-means {A = ℕ × Bool} k (widthOf d total heard, layoutCommits n quorum d total answered heard faults) (w, true) in
+    let c = commits-means n quorum d answered (rowIn (rowsOf d total heard)) faults in (
+      λ e. let q = c .0 (ap (λ (p : ℕ × Bool). p .1) (m .0 e .1)) in (m .0 e .0, ap (λ (p : ℕ × Bool). p .0) (m .0 e .1), q .0, q .1),
+      λ h. m .1 (h .0, ap₂ (λ (x : ℕ) (y : Bool). (x, y)) (h .1) (c .1 (h .2, h .3))),
+    )

@@ -43,7 +43,7 @@ module _ (n quorum d : ℕ) (total : TotalShards) (answered loads : ℕ) (faults
   pub record Trial : Type 0 where
     pub population : (1 ≤ n) × (n ≤ 16)
     pub shards : Fit d (bound total)
-    pub enough : (1 ≤ quorum) × (quorum ≤ n)
+    pub quorum-fits : (1 ≤ quorum) × (quorum ≤ n)
     pub mask : answered < 2 ^ n
     pub each-load : loads ≡ n
     pub list : FaultList n faults
@@ -57,7 +57,7 @@ module _ (n quorum d : ℕ) (total : TotalShards) (answered loads : ℕ) (faults
         record {
           population = population-means n .0 (not-false _ (h .0));
           shards = shards-means d (bound total) .0 (not-false _ (h .1 .0));
-          enough = quorum-means n quorum .0 (not-false _ (h .1 .1 .0));
+          quorum-fits = quorum-means n quorum .0 (not-false _ (h .1 .1 .0));
           mask = ltb-true answered (2 ^ n) (not-false _ (h .1 .1 .1 .0));
           each-load = eqb-true loads n (not-false _ (h .1 .1 .1 .1 .0));
           list = fault-list-means n faults .0 (not-false _ (h .1 .1 .1 .1 .1 .0));
@@ -67,7 +67,7 @@ module _ (n quorum d : ℕ) (total : TotalShards) (answered loads : ℕ) (faults
         simp (
           population-means n .1 (s .population),
           shards-means d (bound total) .1 (s .shards),
-          quorum-means n quorum .1 (s .enough),
+          quorum-means n quorum .1 (s .quorum-fits),
           lt-ltb answered (2 ^ n) (s .mask),
           eq-eqb loads n (s .each-load),
           fault-list-means n faults .1 (s .list),

@@ -1,8 +1,8 @@
 -- `layout::commits_refusal` meets its contract. Assumes nothing.
 use borrow.Author.Needs.{needs}
 use Rattle.refusals.proofs.Checks.{at-most-64}
-use Rattle.layout.proofs.Entries.{layout-checks}
 use Rattle.layout.specs.Layout.{commitsRefusal}
+use Rattle.layout.proofs.Entries.{layout-checks}
 use Rattle.layout.proofs.commits_refusal.Statement.{statement}
 use Rattle.layout.proofs.commits_refusal.Tie as tie
 

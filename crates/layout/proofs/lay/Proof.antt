@@ -1,5 +1,4 @@
 -- `layout::lay` meets its contract. Assumes nothing.
-use native.Mathlib.Omega.{arith}
 use borrow.Author.Needs.{needs}
 use Rattle.layout.specs.Layout.{rowsOf}
 use Rattle.layout.specs.LayoutLaws.{width-fits}

@@ -1,10 +1,8 @@
 -- `layout::layout_commits` meets its contract. Assumes nothing.
-use mathlib.Core.Path.{_≡_, sym, _∙_}
-use mathlib.Core.List.{List}
-use Prim.Native.Nat.{ℕ}
+use mathlib.Core.Path.{sym, _∙_}
 use native.Mathlib.Omega.{arith}
 use borrow.Author.Needs.{needs}
-use lib.ListN.{length, replicate}
+use lib.ListN.{replicate}
 use Rattle.refusals.proofs.Outcomes.{outcomes, leaves-all}
 use Rattle.layout.specs.Layout.{layoutCommitsOf, trialWritten}
 use Rattle.layout.specs.RefusalLaws.{trial-sound}

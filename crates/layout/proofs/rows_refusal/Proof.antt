@@ -1,7 +1,7 @@
 -- `layout::rows_refusal` meets its contract. Assumes nothing.
 use borrow.Author.Needs.{needs}
-use Rattle.layout.proofs.Entries.{layout-checks}
 use Rattle.layout.specs.Layout.{rowsRefusal}
+use Rattle.layout.proofs.Entries.{layout-checks}
 use Rattle.layout.proofs.rows_refusal.Statement.{statement}
 use Rattle.layout.proofs.rows_refusal.Tie as tie
 
