@@ -66,7 +66,11 @@ module _ (f : ℕ → Bool) where
           ap (λ (x : ℕ). eqb x 1) e
       there false l = refl
 
-  -- one number more
+  -- no number, and one more
+  pub mask-none : 0 ≡ maskBelow f 0
+  unfolding maskBelow
+  mask-none = refl
+
   pub mask-yes : (k : ℕ) → f k ≡ true → maskBelow f (k + 1) ≡ withBit (maskBelow f k) k
   unfolding maskBelow
   mask-yes k e = rw (add-one, e)

@@ -200,7 +200,7 @@ unfolding layoutCommitsOf layoutCommits
 layout-commits-means n quorum d total answered loads faults rows w =
     let heard = heardLoads answered loads in
     let k = commitsRefusal n quorum d total answered (length loads) faults rows in
-    let m = accepted-means {A = ℕ × Bool} k (widthOf d total heard, layoutCommits n quorum d total answered heard faults) (w, true) in
+    let m = accepted-means {A = ℕ × Bool} k (widthOf d total heard, layoutCommits n quorum d total answered faults heard) (w, true) in
     let c = commits-means n quorum d answered (rowIn (rowsOf d total heard)) faults in (
       λ e. let q = c .0 (ap (λ (p : ℕ × Bool). p .1) (m .0 e .1)) in (m .0 e .0, ap (λ (p : ℕ × Bool). p .0) (m .0 e .1), q .0, q .1),
       λ h. m .1 (h .0, ap₂ (λ (x : ℕ) (y : Bool). (x, y)) (h .1) (c .1 (h .2, h .3))),

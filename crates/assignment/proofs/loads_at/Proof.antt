@@ -1,14 +1,15 @@
 -- `assignment::loads_at` meets its contract. Assumes nothing.
 use mathlib.Core.Path.{_≡_, sym, ap, _∙_}
 use mathlib.Core.Logic.{⊎-elim}
-use Prim.Native.Nat.{ℕ, _-_, _≤_}
+use Prim.Native.Nat.{ℕ, _-_, _≤_, _<_}
 use native.Mathlib.Omega.{arith}
 use borrow.Author.Needs.{needs}
-use lib.ListN.{length, take}
+use lib.ListN.{length, take, length-set}
 use lib.Seq.{take-all}
 use Rattle.lists.specs.Below.{eachBelow}
 use Rattle.lists.proofs.BelowLoops.{each-none, each-done}
 use Rattle.bitmap.specs.Mask.{maskBelow}
+use Rattle.bitmap.specs.WidthLaws.{mask-none}
 use Rattle.assignment.specs.Search.{answers, loadAt, answeredAt, loadsAt}
 use Rattle.assignment.proofs.Parts.{next-silent, next-answers, row-inside}
 use Rattle.assignment.proofs.loads_at.Statement.{statement}
@@ -28,8 +29,12 @@ loads-at-spec =
     (tie.spec
     Inv-loop
     μ-loop
-    (λ c. ?)
-    (λ c κs. ?)
+    (λ c.
+    let a = c .before .before .args in
+    (search needs, search needs, (each-none (loadAt (a .own .0) (a .d) (a .times .now) (a .t)), mask-none (answers (a .own .0) (a .d) (a .times .now) (a .t)))))
+    (λ c κs.
+    let s = c .before .before .before .before in
+    (search needs, row-inside _ _ _ _ (s .pre .2) (c .loop-test .taken)))
     (λ c. search needs)
     (λ c. search needs)
     (λ c. search needs)
@@ -38,6 +43,23 @@ loads-at-spec =
     (λ c κs. search needs)
     (λ c. search needs)
     (λ c. search needs)
-    (λ c. ?)
-    (λ c. ?)
-    (λ c. ?))
+    (λ c.
+    let y = c .before in
+    let l = y .before .before in
+    let a = l .before .before .before .args in
+    let h : l .loop .p < length (l .loop .loads) = omega arith in (
+      omega arith,
+      ⊎-elim (λ w. rw (w .1, length-set) (l .loop .inv .1)) (λ w. rw (w .2, length-set) (l .loop .inv .1)) (c .if1 .came),
+      ⊎-elim
+      (λ w. next-silent (a .own .0) (a .d) (a .times .now) (a .t) _ _ _ _ (l .loop .inv .2 .0) (l .loop .inv .2 .1) (y .run-at .ensures) h (w .0 .taken) (w .1) (w .2))
+      (λ w. next-answers (a .own .0) (a .d) (a .times .now) (a .t) _ _ _ _ (l .loop .inv .2 .0) (l .loop .inv .2 .1) (y .run-at .ensures) h (w .0 .left) (w .2) (w .3 ∙ w .1 .ensures))
+      (c .if1 .came),
+    ))
+    (λ c. c .before .loop .inv .1 ∙ sym (c .before .before .before .before .pre .3))
+    (λ c.
+    let l = c .before in
+    let a = l .before .before .before .args in
+    let e : l .loop .p ≡ a .n = omega arith in (
+      l .loop .inv .2 .1 ∙ ap (maskBelow (answers (a .own .0) (a .d) (a .times .now) (a .t))) e,
+      sym (take-all (a .n) (l .loop .loads) (omega arith)) ∙ each-done (loadAt (a .own .0) (a .d) (a .times .now) (a .t)) (l .loop .loads) (l .loop .p) (l .loop .inv .2 .0) (a .n) (omega arith) (omega arith),
+    )))

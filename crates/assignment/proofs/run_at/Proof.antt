@@ -24,4 +24,6 @@ run-at-spec =
     let s = c .before .before .before .before .before in
     let h = begins (s .args .p .0) (s .args .d) in
     (search needs, omega (arith, h, s .pre .1)))
-    (λ c. peer-run _ _ _ _ _ (c .before .before .if1 .left) (c .run-from .ensures)))
+    (λ c.
+    let a = c .before .before .before .before .before .before .args in
+    peer-run (a .own .0) (a .d) (a .times .now) (a .t) (a .p .0) (c .before .before .if1 .left) (c .run-from .ensures)))
