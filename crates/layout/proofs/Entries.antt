@@ -2,12 +2,10 @@
 -- about. The premises are what a need's record holds. Assumes nothing.
 use mathlib.Core.Path.{_≡_, sym, ap, ap₂, _∙_}
 use mathlib.Core.Bool.{Bool, true, false, cond, not}
-use mathlib.Core.List.{List, _++_}
+use mathlib.Core.List.{List}
 use Prim.Native.Nat.{ℕ, _≤_}
-use native.Mathlib.Nat.{le-of-eq}
 use native.Mathlib.Omega.{arith}
-use lib.ListN.{length, take, drop, length-append}
-use lib.Seq.{length-take-le, take-at}
+use lib.ListN.{length}
 use Rattle.lists.specs.Below.{front}
 use Rattle.lists.proofs.BelowLoops.{front-all}
 use Rattle.refusals.specs.Limits.{isShards}
@@ -29,24 +27,6 @@ module _ (d w b : ℕ) (r : Bool) where
   shards-fail k rest q e t = call-fails (isShards d w) r k rest (e ∙ ap (isShards d) q) t
 
 pub ruleset layout-checks = (checks, shards-pass, shards-fail)
-
--- ---- the first n words of a local table, lent, and as they come back
-module _ (n : ℕ) (table : List ℕ) (room : n ≤ length table) where
-  pub lent : n ≡ length (take n table)
-  lent = sym (length-take-le n table room)
-
-  module _ (after : List ℕ) (kept : length after ≡ length (take n table)) where
-    pub back : take n (after ++ drop n table) ≡ after
-    back = take-at after (drop n table) n (kept ∙ sym lent)
-
-    pub back-room : n ≤ length (after ++ drop n table)
-    back-room = omega (arith, length-append after (drop n table), lent)
-
-    pub back-lent : n ≡ length (take n (after ++ drop n table))
-    back-lent = lent ∙ sym kept ∙ ap length (sym back)
-
-    pub back-enough : n ≤ length (take n (after ++ drop n table))
-    back-enough = le-of-eq back-lent
 
 -- ---- rows laid in a table of as many words
 pub whole : (d : ℕ) (total : TotalShards) (loads rows : List ℕ) → length rows ≡ length loads → front (rowsOf d total loads) rows ≡ rowsOf d total loads

@@ -5,9 +5,10 @@ use Prim.Native.Nat.{ℕ}
 use native.Mathlib.Omega.{arith}
 use borrow.Author.Needs.{needs}
 use lib.ListN.{replicate}
+use Rattle.lists.proofs.Lent.{lent, back, back-room, back-lent, back-enough}
 use Rattle.coverage.specs.Coverage.{rowIn, commits}
 use Rattle.layout.specs.Layout.{layoutCommits}
-use Rattle.layout.proofs.Entries.{lent, back, back-room, back-lent, back-enough, whole}
+use Rattle.layout.proofs.Entries.{whole}
 use Rattle.layout.proofs.commits.Statement.{statement}
 use Rattle.layout.proofs.commits.Tie as tie
 
@@ -20,7 +21,7 @@ commits-spec =
     (λ c. search lent)
     (λ c κs.
     let s = c .before .before .before in
-    let k = lent (s .args .n) (replicate 16 0) (s .pre .2) in
+    let k = lent {A = ℕ} (s .args .n) (replicate 16 0) (s .pre .2) in
     (s .pre .0, omega arith, omega arith))
     (λ c. search back-room)
     (λ c. search back-lent)

@@ -3,10 +3,11 @@ use mathlib.Core.Path.{sym, _∙_}
 use native.Mathlib.Omega.{arith}
 use borrow.Author.Needs.{needs}
 use lib.ListN.{replicate}
+use Rattle.lists.proofs.Lent.{lent, back, back-room, back-lent}
 use Rattle.refusals.proofs.Outcomes.{outcomes, leaves-all}
 use Rattle.layout.specs.Layout.{layoutCommitsOf, trialWritten}
 use Rattle.layout.specs.RefusalLaws.{trial-sound}
-use Rattle.layout.proofs.Entries.{lent, back, back-room, back-lent, trial-small, trial-written, trial-says}
+use Rattle.layout.proofs.Entries.{trial-small, trial-written, trial-says}
 use Rattle.layout.proofs.layout_commits.Statement.{statement}
 use Rattle.layout.proofs.layout_commits.Tie as tie
 
