@@ -5,3 +5,4 @@ pub mod CountLaws
 pub mod Members
 pub mod RunLaws
 pub mod WidthLaws
+pub mod RunCounts

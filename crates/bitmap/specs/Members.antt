@@ -98,7 +98,7 @@ single s k = go (ℕ-discrete k s)
     go (yes e) = inl (e, ap (bit (2 ^ s)) e ∙ bit-same s)
     go (no f) = inr (f, bit-other s k f)
 
-count-with : (m s : ℕ) → bit m s ≡ 0 → count (withBit m s) ≡ count m + 1
+pub count-with : (m s : ℕ) → bit m s ≡ 0 → count (withBit m s) ≡ count m + 1
 count-with m s h = omega (arith, count-or m (2 ^ s), count-single s, ap count apart, count-none)
   where
     apart : bitAnd m (2 ^ s) ≡ 0
