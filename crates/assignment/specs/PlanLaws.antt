@@ -1,0 +1,308 @@
+-- What a plan and full copies are: what an unrefused input is in numbers, what is planned of it, and that its rows are rows of its width and survive.
+-- Assumes nothing.
+use mathlib.Core.Path.{_≡_, refl, sym, ap, subst, _∙_}
+use mathlib.Core.Logic.{_↔_}
+use mathlib.Core.Bool.{Bool, true, false, not, cond}
+use mathlib.Core.List.{List, List·Memᴰ}
+use mathlib.Core.Option.{Option, none, some}
+use Prim.Native.Nat.{ℕ, zero, suc, _^_, _≤_, _<_}
+use native.Mathlib.Decide.{ℕ-discrete, decLt}
+use native.Mathlib.Omega.{arith}
+use lib.Ieee.{Float}
+use lib.ListN.{length, getD, replicate, length-replicate, getD-replicate}
+use lib.Pow.{pow-mono, ones-lt}
+use borrow.Author.Tests.{eqb-true, eq-eqb, ne-eqb, leb-true, le-leb, ltb-true, lt-ltb, not-true, not-false}
+use Rattle.lists.specs.All.{all, AllOf}
+use Rattle.lists.specs.AllLaws.{all-means}
+use Rattle.lists.specs.BelowLaws.{none-below-means}
+use Rattle.bitmap.specs.Mask.{bit, count, run}
+use Rattle.bitmap.specs.MaskLaws.{below-means}
+use Rattle.bitmap.specs.Members.{Many, many-map}
+use Rattle.bitmap.specs.RunLaws.{run-all}
+use Rattle.bitmap.specs.RunCounts.{run-count}
+use Rattle.refusals.specs.Numbers.{TRIMMED}
+use Rattle.refusals.specs.FirstLaws.{none-holds}
+use Rattle.refusals.specs.Limits.{isInFlight, isRow}
+use Rattle.refusals.specs.LimitLaws.{population-means, shards-means, quorum-means, fault-list-means}
+use Rattle.refusals.specs.Outcome.{Outcome, refused, accepted, checked}
+use Rattle.refusals.specs.OutcomeLaws.{accepted-means}
+use Rattle.coverage.specs.Coverage.{rowIn, coversOf}
+use Rattle.coverage.specs.CoverageLaws.{Survives, commits-means, covers-means}
+use Rattle.coverage.specs.RefusalLaws.{FaultList, covers-sound}
+use Rattle.floats.specs.FirstLaws.{Fits}
+use Rattle.layout.specs.declared.TotalShards.{TotalShards}
+use Rattle.layout.specs.declared.TotalShards.the-variants.{Exactly, AtMost}
+use Rattle.layout.specs.Layout.{Fit, bound, widthOf, rowsOf, layoutCommits}
+use Rattle.layout.specs.LayoutLaws.{width-fits, rows-length, rows-below}
+use Rattle.times.specs.declared.PeerRecord.{PeerRecord}
+use Rattle.times.specs.Times.{silent, shardLength, timesOf, PeersInBounds}
+use Rattle.times.specs.TimeLaws.{times-fit}
+use Rattle.trimming.specs.Order.{trimOrder}
+use Rattle.trimming.specs.TrimmingLaws.{trimmed-length}
+use Rattle.assignment.specs.Search.{candidates, answeredAt, loadsAt, commitsAt, firstTime}
+use Rattle.assignment.specs.SearchLaws.{Answering, answers-means, answered-below, loads-length, First, first-time-means, no-time-means}
+use Rattle.assignment.specs.Plans.{Plan, loadsFor, planAt, planOf, overfull, peersFit, pickCases, pickRefusal, pickOf, copiesCases, copiesRefusal, copiesWidth, fullCopiesOf, copiesWritten}
+
+-- ---- what an unrefused input is
+
+-- at most 2 ^ 40 bytes are in flight to each peer; our own record is unread
+pub peers-fit-means : (n own : ℕ) (peers : List PeerRecord) → (peersFit n own peers ≡ true) ↔ PeersInBounds n own peers
+unfolding peersFit
+peers-fit-means n own peers =
+    let m = none-below-means (overfull own peers) n in (
+      λ e p l h. leb-true (getD peers p silent .inflight) (2 ^ 40) (within p (m .0 (not-true _ e) p l) h),
+      λ b. ap not (m .1 (λ p l. fits p (ℕ-discrete p own) (b p l))),
+    )
+  where
+    within : (p : ℕ) → overfull own peers p ≡ false → (p ≡ own → ⊥) → isInFlight (getD peers p silent .inflight) ≡ true
+    within p e h = not-false _ (rw (ne-eqb p own h) at e)
+
+    fits : (p : ℕ) → Dec (p ≡ own) → ((p ≡ own → ⊥) → getD peers p silent .inflight ≤ 2 ^ 40) → overfull own peers p ≡ false
+    fits p (yes q) b = rw (eq-eqb p own q)
+    fits p (no q) b = rw (ne-eqb p own q, le-leb (getD peers p silent .inflight) (2 ^ 40) (b q))
+
+-- ---- `pick_assignment`, of a table of so many rows
+module _ (n own quorum d : ℕ) (total : TotalShards) (size : ℕ) (peers : List PeerRecord) (faults : List ℕ) (rows : ℕ) where
+  pub record Sound : Type 0 where
+    pub population : (1 ≤ n) × (n ≤ 16)
+    pub replica : own < n
+    pub shards : Fit d (bound total)
+    pub enough : (1 ≤ quorum) × (quorum ≤ n)
+    pub small : size ≤ 2 ^ 30
+    pub in-flight : PeersInBounds n own peers
+    pub list : FaultList n faults
+    pub table : rows ≡ n
+
+  pub pick-sound : (pickRefusal n own quorum d total size peers faults rows ≡ 0) ↔ Sound
+  unfolding pickRefusal
+  pick-sound = (
+    λ e.
+        let h = none-holds (pickCases n own quorum d total size peers faults rows) refl .0 e in
+        record {
+          population = population-means n .0 (not-false _ (h .0));
+          replica = ltb-true own n (not-false _ (h .1 .0));
+          shards = shards-means d (bound total) .0 (not-false _ (h .1 .1 .0));
+          enough = quorum-means n quorum .0 (not-false _ (h .1 .1 .1 .0));
+          small = leb-true size (2 ^ 30) (not-false _ (h .1 .1 .1 .1 .0));
+          in-flight = peers-fit-means n own peers .0 (not-false _ (h .1 .1 .1 .1 .1 .0));
+          list = fault-list-means n faults .0 (not-false _ (h .1 .1 .1 .1 .1 .1 .0));
+          table = eqb-true rows n (not-false _ (h .1 .1 .1 .1 .1 .1 .1 .0));
+        },
+    λ s.
+        simp (
+          population-means n .1 (s .population),
+          lt-ltb own n (s .replica),
+          shards-means d (bound total) .1 (s .shards),
+          quorum-means n quorum .1 (s .enough),
+          le-leb size (2 ^ 30) (s .small),
+          peers-fit-means n own peers .1 (s .in-flight),
+          fault-list-means n faults .1 (s .list),
+          eq-eqb rows n (s .table),
+        ),
+  )
+
+-- ---- `full_copies`
+module _ (n d : ℕ) (total : TotalShards) (rows : ℕ) where
+  pub record SoundCopies : Type 0 where
+    pub population : (1 ≤ n) × (n ≤ 16)
+    pub shards : Fit d (bound total)
+    pub table : rows ≡ n
+
+  pub copies-sound : (copiesRefusal n d total rows ≡ 0) ↔ SoundCopies
+  unfolding copiesRefusal
+  copies-sound = (
+    λ e.
+        let h = none-holds (copiesCases n d total rows) refl .0 e in
+        record {
+          population = population-means n .0 (not-false _ (h .0));
+          shards = shards-means d (bound total) .0 (not-false _ (h .1 .0));
+          table = eqb-true rows n (not-false _ (h .1 .1 .0));
+        },
+    λ s. simp (population-means n .1 (s .population), shards-means d (bound total) .1 (s .shards), eq-eqb rows n (s .table)),
+  )
+
+-- ---- the plan of a table of times
+
+plan-is : (p q : Plan) → p .time ≡ q .time → p .width ≡ q .width → p .rows ≡ q .rows → p ≡ q
+plan-is p q t w r = λ i. record { time = t i; width = w i; rows = r i }
+
+-- what is laid out is a plan if it commits, and never none
+laid-plan : (b : Bool) (a p : Plan) → cond b (accepted (some a)) (refused TRIMMED) ≡ accepted (some p) → (b ≡ true) × (a ≡ p)
+laid-plan true a p e = (refl, cc)
+laid-plan false a p e = let z : _≡_ {A = ℕ} 0 1 = cc in absurd (omega arith)
+
+laid-some : (b : Bool) (a : Plan) → cond b (accepted (some a)) (refused TRIMMED) ≡ accepted none → ⊥
+laid-some true a e = let z : _≡_ {A = ℕ} 0 1 = cc in omega arith
+laid-some false a e = let z : _≡_ {A = ℕ} 0 1 = cc in omega arith
+
+module _ (n own quorum d : ℕ) (total : TotalShards) (faults : List ℕ) (times : List Float) where
+  -- the time is the first candidate that commits; its loads, trimmed, commit, and the width and the rows are what they are laid out in
+  pub record Planned (p : Plan) : Type 0 where
+    pub first : First (commitsAt n own quorum d total faults times) (candidates times) (p .time)
+    pub commits : layoutCommits n quorum d total (answeredAt own d times (p .time) n) faults (loadsFor n own quorum d total faults times (p .time)) ≡ true
+    pub width : p .width ≡ widthOf d total (loadsFor n own quorum d total faults times (p .time))
+    pub rows : p .rows ≡ rowsOf d total (loadsFor n own quorum d total faults times (p .time))
+
+  -- no candidate commits
+  abbrev pub NoneCommits : Type 0
+  NoneCommits = (y : Float) → List·Memᴰ y (candidates times) → commitsAt n own quorum d total faults times y ≡ false
+
+  abbrev planned-at : Float → Plan
+  planned-at t =
+      let loads = loadsFor n own quorum d total faults times t in
+      record { time = t; width = widthOf d total loads; rows = rowsOf d total loads }
+
+  abbrev holds-at : Float → Bool
+  holds-at t = layoutCommits n quorum d total (answeredAt own d times t n) faults (loadsFor n own quorum d total faults times t)
+
+  module _ (fit : AllOf Fits times) where
+    pub plan-of-means : (p : Plan) → (planOf n own quorum d total faults times ≡ accepted (some p)) ↔ Planned p
+    unfolding planOf
+    plan-of-means p = (go (firstTime n own quorum d total faults times) refl, shown)
+      where
+        go : (o : Option Float) → firstTime n own quorum d total faults times ≡ o → planAt n own quorum d total faults times o ≡ accepted (some p) → Planned p
+        go none q e = let z : _≡_ {A = ℕ} 0 1 = cc in absurd (omega arith)
+        go (some t) q e =
+            let r = laid-plan (holds-at t) (planned-at t) p e in
+            subst Planned (r .1) (record { first = first-time-means n own quorum d total faults times fit t .0 q; commits = r .0; width = refl; rows = refl })
+
+        shown : Planned p → planAt n own quorum d total faults times (firstTime n own quorum d total faults times) ≡ accepted (some p)
+        shown h =
+            rw (first-time-means n own quorum d total faults times fit (p .time) .1 (h .first), h .commits)
+            (ap (λ (q : Plan). accepted (some q)) (plan-is (planned-at (p .time)) p refl (sym (h .width)) (sym (h .rows))))
+
+  pub no-plan-of-means : (planOf n own quorum d total faults times ≡ accepted none) ↔ NoneCommits
+  unfolding planOf
+  no-plan-of-means =
+      let m = no-time-means n own quorum d total faults times in
+      (λ e. m .0 (go (firstTime n own quorum d total faults times) refl e), λ h. ap (planAt n own quorum d total faults times) (m .1 h))
+    where
+      go : (o : Option Float) → firstTime n own quorum d total faults times ≡ o → planAt n own quorum d total faults times o ≡ accepted none → firstTime n own quorum d total faults times ≡ none
+      go none q e = q
+      go (some t) q e = absurd (laid-some (holds-at t) (planned-at t) e)
+
+-- ---- what rows are that `covers` takes: as many as replicas, and of shards below a width that is one for the data shards
+pub record AreRows (n d w : ℕ) (rows : List ℕ) : Type 0 where
+  pub fits : Fit d w
+  pub long : length rows ≡ n
+  pub each : all (isRow w) rows ≡ true
+
+-- ---- `pick_assignment`
+
+checked-means : {A : Type 0} (k : ℕ) (o : Outcome A) (b : A) → (checked k o ≡ accepted b) ↔ ((k ≡ 0) × (o ≡ accepted b))
+checked-means zero o b = (λ e. (refl, e), λ h. h .1)
+checked-means (suc k) o b = (λ e. let z : _≡_ {A = ℕ} 0 1 = cc in absurd (omega arith), λ h. absurd (omega arith))
+
+module _ (n own quorum d : ℕ) (total : TotalShards) (size : ℕ) (peers : List PeerRecord) (penalty : Float) (faults : List ℕ) (rows : ℕ) where
+  -- the times of the input, and those that answer by the time of a plan
+  abbrev times : List Float
+  times = timesOf n own d (shardLength size d) peers penalty
+
+  abbrev answered : Plan → ℕ
+  answered p = answeredAt own d times (p .time) n
+
+  -- the answer is the plan p exactly if nothing refuses and p is the plan of those times
+  pub plan-means : (p : Plan)
+      → (pickOf n own quorum d total size peers penalty faults rows ≡ accepted (some p))
+      ↔ ((pickRefusal n own quorum d total size peers faults rows ≡ 0) × Planned n own quorum d total faults times p)
+  unfolding pickOf
+  plan-means p =
+      let c = checked-means (pickRefusal n own quorum d total size peers faults rows) (planOf n own quorum d total faults times) (some p) in
+      let m = plan-of-means n own quorum d total faults times (times-fit n own d (shardLength size d) peers penalty) p in
+      (λ e. (c .0 e .0, m .0 (c .0 e .1)), λ h. c .1 (h .0, m .1 (h .1)))
+
+  -- it is none exactly if nothing refuses and no candidate commits
+  pub none-means : (pickOf n own quorum d total size peers penalty faults rows ≡ accepted none)
+      ↔ ((pickRefusal n own quorum d total size peers faults rows ≡ 0) × NoneCommits n own quorum d total faults times)
+  unfolding pickOf
+  none-means =
+      let c = checked-means (pickRefusal n own quorum d total size peers faults rows) (planOf n own quorum d total faults times) none in
+      let m = no-plan-of-means n own quorum d total faults times in
+      (λ e. (c .0 e .0, m .0 (c .0 e .1)), λ h. c .1 (h .0, m .1 (h .1)))
+
+  -- of any plan
+  module _ (p : Plan) (e : pickOf n own quorum d total size peers penalty faults rows ≡ accepted (some p)) where
+    -- its rows are rows of its width
+    pub plan-are-rows : AreRows n d (p .width) (p .rows)
+    unfolding loadsFor
+    plan-are-rows =
+        let r = plan-means p .0 e in
+        let fit = pick-sound n own quorum d total size peers faults rows .0 (r .0) .shards in
+        let loads = loadsFor n own quorum d total faults times (p .time) in
+        let long : length loads ≡ n = trimmed-length (layoutCommits n quorum d total (answered p) faults) (trimOrder n own d times) (loadsAt own d times (p .time) n) ∙ loads-length own d times (p .time) n in
+        rw (r .1 .width, r .1 .rows)
+        (record { fits = width-fits d total loads fit; long = rows-length d total loads ∙ long; each = rows-below d total loads fit })
+
+    -- a quorum of different replicas answers by its time, and without any one listed set there are d different shards, each in the row of one of them outside it
+    pub plan-survives : Many quorum (λ s. bit (answered p) s ≡ 1) × Survives n d (answered p) (rowIn (p .rows)) faults
+    unfolding layoutCommits
+    plan-survives =
+        let h = plan-means p .0 e .1 in
+        commits-means n quorum d (answered p) (rowIn (p .rows)) faults .0 (rw (h .rows) (h .commits))
+
+    -- they are our own, or reply by its time with no shard
+    pub plan-quorum : Many quorum (λ s. (s < n) × Answering own d times (p .time) s)
+    plan-quorum = many-map answering (plan-survives .0)
+      where
+        answering : (s : ℕ) → bit (answered p) s ≡ 1 → (s < n) × Answering own d times (p .time) s
+        answering s b = let l = known (decLt s n) in (l, answers-means own d times (p .time) n s l .0 b)
+          where
+            known : Dec (s < n) → s < n
+            known (yes l) = l
+            known (no l) =
+                let z = below-means n (answered p) .0 (lt-ltb (answered p) (2 ^ n) (answered-below own d times (p .time) n)) s (omega arith) in
+                absurd (omega arith)
+
+    -- so `covers` takes the plan, and says yes to those that answer
+    pub plan-covers : coversOf n d (p .width) (answered p) (p .rows) faults ≡ accepted true
+    plan-covers =
+        let s = pick-sound n own quorum d total size peers faults rows .0 (plan-means p .0 e .0) in
+        let r = plan-are-rows in
+        covers-means n d (p .width) (answered p) (p .rows) faults .1 (
+          covers-sound n d (p .width) (answered p) (p .rows) faults .1
+              (record {
+                population = s .population;
+                shards = r .fits;
+                each-row = all-means (isRow (p .width)) 0 (p .rows) .0 (r .each);
+                mask = answered-below own d times (p .time) n;
+                table = r .long;
+                list = s .list;
+              }),
+          plan-survives .1,
+        )
+
+-- ---- `full_copies`
+
+-- the answer is w exactly if nothing refuses and w is the width
+pub copies-means : (n d : ℕ) (total : TotalShards) (rows w : ℕ)
+    → (fullCopiesOf n d total rows ≡ accepted w) ↔ ((copiesRefusal n d total rows ≡ 0) × (copiesWidth d total ≡ w))
+unfolding fullCopiesOf
+copies-means n d total rows w = accepted-means (copiesRefusal n d total rows) (copiesWidth d total) w
+
+copies-fit : (d : ℕ) (total : TotalShards) → Fit d (bound total) → Fit d (copiesWidth d total)
+copies-fit d (Exactly w) h = h
+copies-fit d (AtMost w) h = (h .0, omega arith, omega arith)
+
+-- of a table that is not refused
+module _ (n d : ℕ) (total : TotalShards) (rows : List ℕ) (e : copiesRefusal n d total (length rows) ≡ 0) where
+  -- each replica has the shards 0 to d - 1
+  pub copies-at : (s : ℕ) → s < n → rowIn (copiesWritten n d total rows) s ≡ run 0 d
+  unfolding copiesWritten
+  copies-at s l = rw e (getD-replicate n s (run 0 d) 0 l)
+
+  -- and so d different ones
+  pub copies-count : (s : ℕ) → s < n → count (rowIn (copiesWritten n d total rows) s) ≡ d
+  copies-count s l = ap count (copies-at s l) ∙ run-count 0 d
+
+  pub copies-are-rows : AreRows n d (copiesWidth d total) (copiesWritten n d total rows)
+  unfolding copiesWritten
+  copies-are-rows =
+      let w = copiesWidth d total in
+      let h = copies-fit d total (copies-sound n d total (length rows) .0 e .shards) in
+      let row : isRow w (run 0 d) ≡ true = lt-ltb (run 0 d) (2 ^ w) (rw run-all (omega (arith, ones-lt d, pow-mono (h .1)))) in
+      rw e
+      (record {
+        fits = h;
+        long = length-replicate n (run 0 d);
+        each = all-means (isRow w) 0 (replicate n (run 0 d)) .1 (λ s l. ap (isRow w) (getD-replicate n s (run 0 d) 0 (rw length-replicate at l)) ∙ row);
+      })
