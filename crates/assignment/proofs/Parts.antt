@@ -8,11 +8,11 @@ use native.Mathlib.Nat.{le-refl}
 use native.Mathlib.Numerals.{add-one}
 use native.Mathlib.Omega.{arith}
 use lib.Ieee.{Float}
-use lib.ListN.{length, take, set}
+use lib.ListN.{length, take, set, replicate}
 use borrow.Author.Tests.{lt-ltb, ne-eqb, not-true, not-false}
 use Rattle.lists.specs.Below.{runOf, eachBelow, front}
 use Rattle.lists.proofs.BelowLoops.{front-all, each-more}
-use Rattle.bitmap.specs.Mask.{withBit, maskBelow}
+use Rattle.bitmap.specs.Mask.{withBit, maskBelow, run}
 use Rattle.bitmap.specs.WidthLaws.{mask-yes, mask-no}
 use Rattle.refusals.specs.Numbers.{TRIMMED}
 use Rattle.refusals.specs.Outcome.{refused, accepted}
@@ -21,7 +21,8 @@ use Rattle.layout.specs.Layout.{layoutCommits, widthOf, rowsOf}
 use Rattle.layout.specs.LayoutLaws.{rows-length}
 use Rattle.times.specs.TimeLaws.{place-within}
 use Rattle.assignment.specs.Search.{inTimeFrom, runAt, answers, loadAt}
-use Rattle.assignment.specs.Plans.{Plan, laidOut, planned}
+use Rattle.assignment.specs.Plans.{Plan, laidOut, planned, copiesRefusal, copiesWritten}
+use Rattle.assignment.specs.PlanLaws.{copies-sound}
 
 -- ---- `run_at`: the place where a peer's times begin
 pub begins : (p d : ℕ) → p * (d + 1) ≡ p * suc d
@@ -67,3 +68,11 @@ module _ (own d : ℕ) (times : List Float) (t : Float) (p : ℕ) (l : List ℕ)
 -- the place of a replica's last time is within the table
 pub row-inside : (n d p L : ℕ) → L ≡ n * suc d → p < n → p * suc d + d < L
 row-inside n d p L e h = let k = place-within d p d (le-refl d) n h in omega (arith, k)
+
+-- ---- `full_copies`
+pub copies-done : (n d : ℕ) (total : TotalShards) (rows : List ℕ) (got row : ℕ) (after : List ℕ) → got ≡ copiesRefusal n d total (length rows) → got ≡ 0 → row ≡ run 0 d
+    → after ≡ replicate (length rows) row → after ≡ copiesWritten n d total rows
+unfolding copiesWritten
+copies-done n d total rows got row after e z r f =
+    let s = copies-sound n d total (length rows) .0 (sym e ∙ z) in
+    rw (sym e ∙ z) (f ∙ rw (r, s .table))

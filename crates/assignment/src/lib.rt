@@ -292,13 +292,8 @@ fn consider(
     if !floats::is_finite(x) {
         return best;
     }
-    match best {
-        Found::Nothing => (),
-        Found::At(b) => {
-            if floats::total_le(b, x) {
-                return best;
-            }
-        }
+    if !floats::precedes(x, best) {
+        return best;
     }
     if commits_at(n, own, quorum, d, total, faults, times, x) {
         return Found::At(x);

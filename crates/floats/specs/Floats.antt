@@ -59,3 +59,8 @@ pub record Fine (x : Float) : Type 0 where
 abbrev pub found : Found → Option Float
 found Nothing = none
 found (At x) = some x
+
+-- x stands before what was found, or nothing was
+abbrev pub precedes : Float → Option Float → Bool
+precedes x none = true
+precedes x (some b) = not (totalLe b x)

@@ -4,6 +4,8 @@ use native.Mathlib.Omega.{arith}
 use borrow.Author.Needs.{needs}
 use Rattle.refusals.proofs.Outcomes.{outcomes, leaves-all}
 use Rattle.assignment.specs.Plans.{fullCopiesOf, copiesWritten}
+use Rattle.assignment.specs.PlanLaws.{copies-sound}
+use Rattle.assignment.proofs.Parts.{copies-done}
 use Rattle.assignment.proofs.full_copies.Statement.{statement}
 use Rattle.assignment.proofs.full_copies.Tie as tie
 
@@ -14,8 +16,11 @@ full-copies-spec =
     (tie.spec
     (λ c κs. search needs)
     (λ c. (search outcomes, search leaves-all))
-    (λ c κs. ?)
+    (λ c κs.
+    let i = c in
+    let s = copies-sound _ _ _ _ .0 (sym (i .before .copies-refusal .ensures) ∙ i .if1 .left) in
+    omega (arith, s .shards))
     (λ c κs. search needs)
     (λ c κs. search needs)
     (λ c. search needs)
-    (λ c. (search outcomes, ?)))
+    (λ c. (search outcomes, search copies-done)))
