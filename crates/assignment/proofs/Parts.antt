@@ -1,8 +1,8 @@
 -- How the parts of a plan come to what the definitions say. The premises are the fields of a need's record. Assumes nothing.
 use mathlib.Core.Path.{_≡_, refl, sym, ap, _∙_}
-use mathlib.Core.Bool.{Bool, true, false, not}
-use mathlib.Core.List.{List, _++_, append-nil}
-use mathlib.Core.Option.{some}
+use mathlib.Core.Bool.{Bool, true, false, not, cond, _&&_}
+use mathlib.Core.List.{List, [], _∷_, foldl}
+use mathlib.Core.Option.{Option, none, some}
 use Prim.Native.Nat.{ℕ, suc, _+_, _-_, _*_, _≤_, _<_}
 use native.Mathlib.Nat.{le-refl}
 use native.Mathlib.Numerals.{add-one}
@@ -10,17 +10,22 @@ use native.Mathlib.Omega.{arith}
 use lib.Ieee.{Float}
 use lib.ListN.{length, take, set, replicate}
 use borrow.Author.Tests.{lt-ltb, ne-eqb, not-true, not-false}
+use Rattle.lists.specs.All.{AllOf}
+use Rattle.lists.specs.First.{firstThat, betterBy}
+use Rattle.lists.specs.Sort.{sortedBy}
 use Rattle.lists.specs.Below.{runOf, eachBelow, front}
 use Rattle.lists.proofs.BelowLoops.{front-all, each-more}
 use Rattle.bitmap.specs.Mask.{withBit, maskBelow, run}
 use Rattle.bitmap.specs.WidthLaws.{mask-yes, mask-no}
+use Rattle.floats.specs.Floats.{isFinite, totalLe, precedes}
+use Rattle.floats.specs.FirstLaws.{Fits, first-is-least, taken-means}
 use Rattle.refusals.specs.Numbers.{TRIMMED}
 use Rattle.refusals.specs.Outcome.{refused, accepted}
 use Rattle.layout.specs.declared.TotalShards.{TotalShards}
 use Rattle.layout.specs.Layout.{layoutCommits, widthOf, rowsOf}
 use Rattle.layout.specs.LayoutLaws.{rows-length}
 use Rattle.times.specs.TimeLaws.{place-within}
-use Rattle.assignment.specs.Search.{inTimeFrom, runAt, answers, loadAt}
+use Rattle.assignment.specs.Search.{inTimeFrom, runAt, answers, loadAt, candidates}
 use Rattle.assignment.specs.Plans.{Plan, laidOut, planned, copiesRefusal, copiesWritten}
 use Rattle.assignment.specs.PlanLaws.{copies-sound}
 
@@ -76,3 +81,57 @@ unfolding copiesWritten
 copies-done n d total rows got row after e z r f =
     let s = copies-sound n d total (length rows) .0 (sym e ∙ z) in
     rw (sym e ∙ z) (f ∙ rw (r, s .table))
+
+-- ---- `consider`: t says whether the layout at x commits, and b is the best so far
+module _ (t : Bool) (b : Option Float) (x : Float) where
+  abbrev Considered : Option Float → Type 0
+  Considered r = r ≡ cond (isFinite x && t) (betterBy totalLe b x) b
+
+  -- x is no candidate
+  pub passed-over : {r : Bool} → r ≡ isFinite x → not r ≡ true → Considered b
+  passed-over {r} e u = rw (sym e ∙ not-true r u)
+
+  -- it does not stand before the best, so it need not be tested
+  pub not-before : {r : Bool} → r ≡ precedes x b → not r ≡ true → Considered b
+  not-before {r} e u = sym (taken-means (isFinite x && t) b x ∙ rw (sym e ∙ not-true r u))
+
+  -- it does, and commits
+  pub best-yet : {f r s : Bool} → f ≡ isFinite x → not f ≡ false → r ≡ precedes x b → not r ≡ false → s ≡ t → s ≡ true → Considered (some x)
+  best-yet {f} {r} e u g v h w = sym (taken-means (isFinite x && t) b x ∙ rw (sym g ∙ not-false r v, sym e ∙ not-false f u, sym h ∙ w))
+
+  -- it does not commit
+  pub not-yet : {s : Bool} → s ≡ t → s ≡ false → Considered b
+  not-yet e u = rw (sym e ∙ u) (go (isFinite x))
+    where
+      go : (f : Bool) → b ≡ cond (f && false) (betterBy totalLe b x) b
+      go true = refl
+      go false = refl
+
+-- ---- `first_time`: the least candidate, in one pass over all times
+module _ (commits : Float → Bool) where
+  -- what one time more does to what was found
+  abbrev pub step : Option Float → Float → Option Float
+  step b x = cond (isFinite x && commits x) (betterBy totalLe b x) b
+
+  abbrev taking : Option Float → Float → Option Float
+  taking b x = cond (commits x) (betterBy totalLe b x) b
+
+  over : (b : Option Float) (times : List Float) → foldl step b times ≡ foldl taking b (candidates times)
+  over b [] = refl
+  over b (x ∷ xs) = go (isFinite x) (over b xs) (over (taking b x) xs)
+    where
+      go : (f : Bool) → foldl step b xs ≡ foldl taking b (candidates xs) → foldl step (taking b x) xs ≡ foldl taking (taking b x) (candidates xs)
+          → foldl step (cond (f && commits x) (betterBy totalLe b x) b) xs ≡ foldl taking b (cond f (x ∷ candidates xs) (candidates xs))
+      go true p q = q
+      go false p q = p
+
+  candidates-fit : (times : List Float) → AllOf Fits times → AllOf Fits (candidates times)
+  candidates-fit [] a = tt
+  candidates-fit (x ∷ xs) a = go (isFinite x) (candidates-fit xs (a .1))
+    where
+      go : (f : Bool) → AllOf Fits (candidates xs) → AllOf Fits (cond f (x ∷ candidates xs) (candidates xs))
+      go true r = (a .0, r)
+      go false r = r
+
+  pub least-found : (times : List Float) → AllOf Fits times → foldl step none times ≡ firstThat commits (sortedBy totalLe (candidates times))
+  least-found times a = over none times ∙ sym (first-is-least commits (candidates times) (candidates-fit times a))

@@ -26,11 +26,11 @@ commits-at-spec =
     (λ c κs.
     let y = c .before .before in
     let s = y .before .before .before .before in
-    (s .pre .0, sym (back-lent {A = ℕ} (s .args .n) (replicate 16 0) (s .pre .1) _ (y .loads-at .kept .1 .1 .1 .1 .1 .0)), s .pre .1))
+    (s .pre .0, sym (back-lent {A = ℕ} (s .args .n) (replicate 16 0) (s .pre .1) (y .loads-at .last .1 .1 .1 .1 .1 .0) (y .loads-at .kept .1 .1 .1 .1 .1 .0)), s .pre .1))
     (λ c.
     let y = c .before .before .before in
     let s = y .before .before .before .before in
     let a = s .args in
     c .commits .ensures
     ∙ ap₂ (λ (m : ℕ) (l : List ℕ). layoutCommits (a .n) (a .quorum) (a .d) (a .total) m (a .faults .now) l) (y .loads-at .ensures .0)
-    (back {A = ℕ} (a .n) (replicate 16 0) (s .pre .1) _ (y .loads-at .kept .1 .1 .1 .1 .1 .0) ∙ y .loads-at .ensures .1)))
+    (back {A = ℕ} (a .n) (replicate 16 0) (s .pre .1) (y .loads-at .last .1 .1 .1 .1 .1 .0) (y .loads-at .kept .1 .1 .1 .1 .1 .0) ∙ y .loads-at .ensures .1)))

@@ -1,0 +1,40 @@
+-- `assignment::first_time` meets its contract. Assumes nothing.
+use mathlib.Core.Path.{_≡_, refl, sym, ap, _∙_}
+use mathlib.Core.List.{foldl, List}
+use mathlib.Core.Option.{Option, none}
+use Prim.Native.Nat.{_-_, _≤_, _+_}
+use native.Mathlib.Omega.{arith}
+use borrow.Author.Needs.{needs}
+use lib.Ieee.{nan, Float}
+use lib.ListN.{length, drop}
+use Rattle.lists.specs.AllLaws.{all-of-means}
+use Rattle.lists.proofs.Loops.{fold-step, fold-done}
+use Rattle.floats.specs.Floats.{found}
+use Rattle.floats.specs.FirstLaws.{Fits}
+use Rattle.assignment.specs.Search.{commitsAt, firstTime}
+use Rattle.assignment.proofs.Parts.{step, least-found}
+use Rattle.assignment.proofs.first_time.Statement.{statement}
+use Rattle.assignment.proofs.first_time.Tie as tie
+
+abbrev Inv-loop : tie.InvT-loop
+Inv-loop n own quorum d total faults times best₀ i₀ best i =
+    (i ≤ length times) × (foldl (step (commitsAt n (own .0) quorum d total faults times)) (found best) (drop i times) ≡ foldl (step (commitsAt n (own .0) quorum d total faults times)) none times)
+
+abbrev μ-loop : tie.MeasureT-loop
+μ-loop n own quorum d total faults times best₀ i₀ best i = length times - i
+
+pub first-time-spec : {M : Type 1} → statement M
+unfolding firstTime
+first-time-spec =
+    tie.close
+    (tie.spec
+    Inv-loop
+    μ-loop
+    (λ c. (search needs, refl))
+    (λ c. search needs)
+    (λ c. search needs)
+    (λ c κs. search needs)
+    (λ c. search needs)
+    (λ c. search needs)
+    (λ c. ?)
+    (λ c. ?))
