@@ -1,3 +1,4 @@
--- How the code comes to what the definitions say.
+-- How the code comes to what the definitions say, and worked values.
 pub mod Orders
 pub mod Passes
+pub mod Examples
