@@ -1,5 +1,7 @@
 -- `assignment::consider` meets its contract. Assumes nothing.
 use borrow.Author.Needs.{needs}
+use Rattle.floats.specs.Floats.{found}
+use Rattle.assignment.specs.Search.{commitsAt}
 use Rattle.assignment.proofs.Parts.{passed-over, not-before, best-yet, not-yet}
 use Rattle.assignment.proofs.consider.Statement.{statement}
 use Rattle.assignment.proofs.consider.Tie as tie
@@ -16,5 +18,6 @@ consider-spec =
     (λ c.
     let p = c .before .before in
     let i = p .before .before in
-    best-yet _ _ _ (i .before .is-finite .ensures) (i .if1 .left) (p .before .precedes .ensures) (p .if2 .left) (c .before .commits-at .ensures) (c .if3 .taken))
+    let a = i .before .before .before .before .args in
+    best-yet (commitsAt (a .n) (a .own .0) (a .quorum) (a .d) (a .total) (a .faults .now) (a .times .now) (a .x)) (found (a .best)) (a .x) (i .before .is-finite .ensures) (i .if1 .left) (p .before .precedes .ensures) (p .if2 .left) (c .before .commits-at .ensures) (c .if3 .taken))
     (λ c. not-yet _ _ _ (c .before .commits-at .ensures) (c .if3 .left)))

@@ -2,7 +2,7 @@
 use mathlib.Core.Path.{_≡_, refl, sym, ap, _∙_}
 use mathlib.Core.List.{foldl, List}
 use mathlib.Core.Option.{Option, none}
-use Prim.Native.Nat.{_-_, _≤_, _+_}
+use Prim.Native.Nat.{_-_, _≤_, _<_, _+_}
 use native.Mathlib.Omega.{arith}
 use borrow.Author.Needs.{needs}
 use lib.Ieee.{nan, Float}
@@ -36,5 +36,18 @@ first-time-spec =
     (λ c κs. search needs)
     (λ c. search needs)
     (λ c. search needs)
-    (λ c. ?)
-    (λ c. ?))
+    (λ c.
+    let l = c .before .before .before in
+    let a = l .before .before .before .args in
+    let f = step (commitsAt (a .n) (a .own .0) (a .quorum) (a .d) (a .total) (a .faults .now) (a .times .now)) in
+    let h : l .loop .i < length (a .times .now) = c .before .before .loop-test .taken in (
+      omega arith,
+      ap (λ (b : Option Float). foldl f b (drop (l .loop .i + 1) (a .times .now))) (c .consider .ensures)
+      ∙ fold-step f (found (l .loop .best)) (a .times .now) (l .loop .i) nan h ∙ l .loop .inv .1,
+    ))
+    (λ c.
+    let l = c .before in
+    let a = l .before .before .before .args in
+    let t = commitsAt (a .n) (a .own .0) (a .quorum) (a .d) (a .total) (a .faults .now) (a .times .now) in
+    sym (fold-done (step t) (found (l .loop .best)) (a .times .now) (l .loop .i) (c .loop-test .left)) ∙ l .loop .inv .1
+    ∙ least-found t (a .times .now) (all-of-means Fits nan (a .times .now) .1 (λ i h. l .before .shared-slice-known2 .given i))))
