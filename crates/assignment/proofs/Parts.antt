@@ -3,8 +3,8 @@ use mathlib.Core.Path.{_≡_, refl, sym, ap, _∙_}
 use mathlib.Core.Bool.{Bool, true, false, not, cond, _&&_}
 use mathlib.Core.List.{List, [], _∷_, foldl}
 use mathlib.Core.Option.{Option, none, some}
-use Prim.Native.Nat.{ℕ, suc, _+_, _-_, _*_, _≤_, _<_}
-use native.Mathlib.Nat.{le-refl}
+use Prim.Native.Nat.{ℕ, suc, _+_, _-_, _*_, _≤_, _<_, suc-le-suc}
+use native.Mathlib.Nat.{le-refl, mul-le-mul}
 use native.Mathlib.Numerals.{add-one}
 use native.Mathlib.Omega.{arith}
 use lib.Ieee.{Float}
@@ -24,9 +24,11 @@ use Rattle.refusals.specs.Outcome.{refused, accepted}
 use Rattle.layout.specs.declared.TotalShards.{TotalShards}
 use Rattle.layout.specs.Layout.{layoutCommits, widthOf, rowsOf}
 use Rattle.layout.specs.LayoutLaws.{rows-length}
+use Rattle.trimming.specs.Order.{trimOrder}
+use Rattle.trimming.specs.Trimming.{trimmed}
 use Rattle.times.specs.TimeLaws.{place-within}
-use Rattle.assignment.specs.Search.{inTimeFrom, runAt, answers, loadAt, candidates}
-use Rattle.assignment.specs.Plans.{Plan, laidOut, planned, copiesRefusal, copiesWritten}
+use Rattle.assignment.specs.Search.{inTimeFrom, runAt, answers, loadAt, answeredAt, loadsAt, candidates, firstTime}
+use Rattle.assignment.specs.Plans.{Plan, loadsFor, laidOut, planAt, planOf, planned, copiesRefusal, copiesWritten}
 use Rattle.assignment.specs.PlanLaws.{copies-sound}
 
 -- ---- `run_at`: the place where a peer's times begin
@@ -135,3 +137,26 @@ module _ (commits : Float → Bool) where
 
   pub least-found : (times : List Float) → AllOf Fits times → foldl step none times ≡ firstThat commits (sortedBy totalLe (candidates times))
   least-found times a = over none times ∙ sym (first-is-least commits (candidates times) (candidates-fit times a))
+
+-- ---- `loads_for`: the table of times is small, and what trimming was given
+pub table-small : (n d L : ℕ) → n ≤ 16 → d ≤ 64 → L ≡ n * suc d → L ≤ 1040
+table-small n d L h l e = let a : n * suc d ≤ 1040 = mul-le-mul h (suc-le-suc l) in omega arith
+
+pub loads-trimmed : (n own quorum d : ℕ) (total : TotalShards) (faults : List ℕ) (times : List Float) (t : Float) {m : ℕ} {o l r : List ℕ}
+    → m ≡ answeredAt own d times t n → o ≡ trimOrder n own d times → l ≡ loadsAt own d times t n → r ≡ trimmed (layoutCommits n quorum d total m faults) o l
+    → r ≡ loadsFor n own quorum d total faults times t
+unfolding loadsFor
+loads-trimmed n own quorum d total faults times t e f g h = h ∙ rw (e, f, g)
+
+-- ---- `plan_at`: answered and loads are those of the time
+module _ (n own quorum d : ℕ) (total : TotalShards) (faults : List ℕ) (times : List Float) (t : Float) {m : ℕ} {l : List ℕ}
+    (e : m ≡ answeredAt own d times t n) (f : l ≡ loadsFor n own quorum d total faults times t) where
+  pub plan-at-is : laidOut n quorum d total faults m t l ≡ planAt n own quorum d total faults times (some t)
+  plan-at-is = rw (e, f)
+
+-- ---- `plan`: of the time that was found
+module _ (n own quorum d : ℕ) (total : TotalShards) (faults : List ℕ) (times : List Float) {b r : Option Float}
+    (e : b ≡ firstTime n own quorum d total faults times) (f : b ≡ r) where
+  pub plan-is : planAt n own quorum d total faults times r ≡ planOf n own quorum d total faults times
+  unfolding planOf
+  plan-is = ap (planAt n own quorum d total faults times) (sym f ∙ e)

@@ -9,7 +9,7 @@ ghost use Rattle.lists.specs.First.{betterBy};
 ghost use Rattle.floats.specs.Floats.{isFinite, totalLe, found};
 ghost use Rattle.layout.specs.Layout.{Fit, bound, laid};
 ghost use Rattle.assignment.specs.Search.{inTimeFrom, runAt, answeredAt, loadsAt, commitsAt, firstTime};
-ghost use Rattle.assignment.specs.Plans.{laidOut, planAt, planOf, isOverfull, peersFit, pickRefusal, picked, pickOf, planned, copiesRefusal, copiesWidth, fullCopiesOf, copiesWritten};
+ghost use Rattle.assignment.specs.Plans.{loadsFor, laidOut, planAt, planOf, isOverfull, peersFit, pickRefusal, picked, pickOf, planned, copiesRefusal, copiesWidth, fullCopiesOf, copiesWritten};
 use bitmap::ReplicaId;
 use floats::Found;
 use layout::Laid;
@@ -212,10 +212,30 @@ fn plan_at(
     ensures answer { λ r. ⌜ picked r (now (rows .exit)) ≡ planAt n (own .0) quorum d total (now (faults .entry)) (now (times .entry)) (some t) ⌝ }
     ensures words { λ r. ⌜ now (rows .exit) ≡ planned (planAt n (own .0) quorum d total (now (faults .entry)) (now (times .entry)) (some t)) (now (rows .entry)) ⌝ }
 {
+    let mut loads = [0usize; 16];
+    let answered = loads_for(n, own, quorum, d, total, faults, times, t, &mut loads[..n]);
+    lay_out(n, quorum, d, total, answered, faults, t, &loads[..n], rows)
+}
+
+// The loads at a time, trimmed, and the mask of those that answer.
+fn loads_for(
+    n: usize,
+    own: ReplicaId,
+    quorum: usize,
+    d: usize,
+    total: TotalShards,
+    faults: &[u64],
+    times: &[f64],
+    t: f64,
+    loads: &mut [usize],
+) -> u64
+    requires { ⌜ Fit d (bound total) × (n ≤ 16) × (length (now times) ≡ n * suc d) × (length (now loads) ≡ n) ⌝ }
+    ensures mask { λ r. ⌜ r ≡ answeredAt (own .0) d (now (times .entry)) t n ⌝ }
+    ensures loads { λ r. ⌜ now (loads .exit) ≡ loadsFor n (own .0) quorum d total (now (faults .entry)) (now (times .entry)) t ⌝ }
+{
+    let answered = loads_at(n, own, d, times, t, loads);
     let mut order = [0usize; 16];
     let count = trimming::trim_order(n, own, d, times, &mut order);
-    let mut loads = [0usize; 16];
-    let answered = loads_at(n, own, d, times, t, &mut loads[..n]);
     trimming::trim(
         n,
         quorum,
@@ -224,9 +244,9 @@ fn plan_at(
         answered,
         faults,
         &order[..count],
-        &mut loads[..n],
+        loads,
     );
-    lay_out(n, quorum, d, total, answered, faults, t, &loads[..n], rows)
+    answered
 }
 
 // What trimmed loads come to.

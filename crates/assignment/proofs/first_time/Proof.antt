@@ -43,7 +43,7 @@ first-time-spec =
     let h : l .loop .i < length (a .times .now) = c .before .before .loop-test .taken in (
       omega arith,
       ap (λ (b : Option Float). foldl f b (drop (l .loop .i + 1) (a .times .now))) (c .consider .ensures)
-      ∙ fold-step f (found (l .loop .best)) (a .times .now) (l .loop .i) nan h ∙ l .loop .inv .1,
+          ∙ fold-step f (found (l .loop .best)) (a .times .now) (l .loop .i) nan h ∙ l .loop .inv .1,
     ))
     (λ c.
     let l = c .before in

@@ -51,9 +51,9 @@ loads-at-spec =
       omega arith,
       ⊎-elim (λ w. rw (w .1, length-set) (l .loop .inv .1)) (λ w. rw (w .2, length-set) (l .loop .inv .1)) (c .if1 .came),
       ⊎-elim
-      (λ w. next-silent (a .own .0) (a .d) (a .times .now) (a .t) _ _ _ _ (l .loop .inv .2 .0) (l .loop .inv .2 .1) (y .run-at .ensures) h (w .0 .taken) (w .1) (w .2))
-      (λ w. next-answers (a .own .0) (a .d) (a .times .now) (a .t) _ _ _ _ (l .loop .inv .2 .0) (l .loop .inv .2 .1) (y .run-at .ensures) h (w .0 .left) (w .2) (w .3 ∙ w .1 .ensures))
-      (c .if1 .came),
+          (λ w. next-silent (a .own .0) (a .d) (a .times .now) (a .t) _ _ _ _ (l .loop .inv .2 .0) (l .loop .inv .2 .1) (y .run-at .ensures) h (w .0 .taken) (w .1) (w .2))
+          (λ w. next-answers (a .own .0) (a .d) (a .times .now) (a .t) _ _ _ _ (l .loop .inv .2 .0) (l .loop .inv .2 .1) (y .run-at .ensures) h (w .0 .left) (w .2) (w .3 ∙ w .1 .ensures))
+          (c .if1 .came),
     ))
     (λ c. c .before .loop .inv .1 ∙ sym (c .before .before .before .before .pre .3))
     (λ c.

@@ -34,9 +34,11 @@ run-from-spec =
     let l = c .before .before .before in
     let a = l .before .args in
     let h : l .loop .k < suc (a .d) = omega arith in
-    let i : a .from + l .loop .k < length (a .times .now) = omega arith in
-    (omega arith, run-on (inTimeFrom (a .times .now) (a .t) (a .from)) (suc (a .d)) (l .loop .k) _ h (l .loop .inv .1)
-    (ap (λ (x : Float). le x (a .t)) (inside-any (a .times .now) (a .from + l .loop .k) nan never i)) (c .if1 .taken)))
+    let i : a .from + l .loop .k < length (a .times .now) = omega arith in (
+      omega arith,
+      run-on (inTimeFrom (a .times .now) (a .t) (a .from)) (suc (a .d)) (l .loop .k) _ h (l .loop .inv .1)
+          (ap (λ (x : Float). le x (a .t)) (inside-any (a .times .now) (a .from + l .loop .k) nan never i)) (c .if1 .taken),
+    ))
     (λ c.
     let l = c .before .before .before in
     let a = l .before .args in
