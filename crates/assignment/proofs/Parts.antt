@@ -3,7 +3,7 @@ use mathlib.Core.Path.{_≡_, refl, sym, ap, _∙_}
 use mathlib.Core.Bool.{Bool, true, false, not, cond, _&&_}
 use mathlib.Core.List.{List, [], _∷_, foldl}
 use mathlib.Core.Option.{Option, none, some}
-use Prim.Native.Nat.{ℕ, suc, _+_, _-_, _*_, _≤_, _<_, suc-le-suc}
+use Prim.Native.Nat.{ℕ, zero, suc, _+_, _-_, _*_, _≤_, _<_, suc-le-suc}
 use native.Mathlib.Nat.{le-refl, mul-le-mul}
 use native.Mathlib.Numerals.{add-one}
 use native.Mathlib.Omega.{arith}
@@ -20,16 +20,18 @@ use Rattle.bitmap.specs.WidthLaws.{mask-yes, mask-no}
 use Rattle.floats.specs.Floats.{isFinite, totalLe, precedes}
 use Rattle.floats.specs.FirstLaws.{Fits, first-is-least, taken-means}
 use Rattle.refusals.specs.Numbers.{TRIMMED}
-use Rattle.refusals.specs.Outcome.{refused, accepted}
+use Rattle.refusals.specs.Outcome.{Outcome, refused, accepted, checked}
 use Rattle.layout.specs.declared.TotalShards.{TotalShards}
 use Rattle.layout.specs.Layout.{layoutCommits, widthOf, rowsOf}
 use Rattle.layout.specs.LayoutLaws.{rows-length}
 use Rattle.trimming.specs.Order.{trimOrder}
 use Rattle.trimming.specs.Trimming.{trimmed}
+use Rattle.times.specs.declared.PeerRecord.{PeerRecord}
+use Rattle.times.specs.Times.{shardLength, timesOf}
 use Rattle.times.specs.TimeLaws.{place-within}
 use Rattle.assignment.specs.Search.{inTimeFrom, runAt, answers, loadAt, answeredAt, loadsAt, candidates, firstTime}
-use Rattle.assignment.specs.Plans.{Plan, loadsFor, laidOut, planAt, planOf, planned, copiesRefusal, copiesWritten}
-use Rattle.assignment.specs.PlanLaws.{copies-sound}
+use Rattle.assignment.specs.Plans.{Plan, loadsFor, laidOut, planAt, planOf, planned, pickRefusal, pickOf, copiesRefusal, copiesWritten}
+use Rattle.assignment.specs.PlanLaws.{Sound, pick-sound, copies-sound}
 
 -- ---- `run_at`: the place where a peer's times begin
 pub begins : (p d : ℕ) → p * (d + 1) ≡ p * suc d
@@ -160,3 +162,33 @@ module _ (n own quorum d : ℕ) (total : TotalShards) (faults : List ℕ) (times
   pub plan-is : planAt n own quorum d total faults times r ≡ planOf n own quorum d total faults times
   unfolding planOf
   plan-is = ap (planAt n own quorum d total faults times) (sym f ∙ e)
+
+-- ---- `pick_assignment`: the lent table has room for so many rows
+module _ (n own quorum d : ℕ) (total : TotalShards) (size : ℕ) (peers : List PeerRecord) (faults : List ℕ) (room got : ℕ)
+    (e : got ≡ pickRefusal n own quorum d total size peers faults room) where
+  pub pick-refused : (penalty : Float) (rows : List ℕ) → (got ≡ 0 → ⊥)
+      → (refused got ≡ pickOf n own quorum d total size peers penalty faults room) × (rows ≡ planned (pickOf n own quorum d total size peers penalty faults room) rows)
+  unfolding pickOf
+  pick-refused penalty rows u = rw (sym e) (go got u)
+    where
+      plan : Outcome (Option Plan)
+      plan = planOf n own quorum d total faults (timesOf n own d (shardLength size d) peers penalty)
+
+      go : (k : ℕ) → (k ≡ 0 → ⊥) → (refused k ≡ checked k plan) × (rows ≡ planned (checked k plan) rows)
+      go zero u = absurd (u refl)
+      go (suc k) u = (refl, refl)
+
+  module _ (z : got ≡ 0) where
+    -- what has been tested
+    pub tested : Sound n own quorum d total size peers faults room
+    tested = pick-sound n own quorum d total size peers faults room .0 (sym e ∙ z)
+
+    -- the times have room in their table
+    pub table-room : n * (d + 1) ≤ 1040
+    table-room = let s = tested in table-small n d (n * (d + 1)) (s .population .1) (omega (arith, s .shards)) (begins n d)
+
+    -- of the times that were filled in
+    pub pick-is : (penalty : Float) {len : ℕ} {times : List Float} → len ≡ shardLength size d → times ≡ timesOf n own d len peers penalty
+        → planOf n own quorum d total faults times ≡ pickOf n own quorum d total size peers penalty faults room
+    unfolding pickOf
+    pick-is penalty f g = rw (sym e ∙ z, g, f)

@@ -14,7 +14,6 @@ use Rattle.refusals.specs.Outcome.{Outcome, refused, accepted, checked, outcome
 use Rattle.refusals.specs.Limits.{isPopulation, isReplica, isShards, isQuorum, isSize, isInFlight, isFaultList}
 use Rattle.layout.specs.declared.TotalShards.{TotalShards}
 use Rattle.layout.specs.declared.TotalShards.the-variants.{Exactly, AtMost}
-use Rattle.layout.specs.declared.Laid.{Laid}
 use Rattle.layout.specs.Layout.{bound, widthOf, rowsOf, layoutCommits}
 use Rattle.times.specs.declared.PeerRecord.{PeerRecord}
 use Rattle.times.specs.Times.{silent, shardLength, timesOf}

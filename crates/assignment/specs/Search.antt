@@ -1,12 +1,12 @@
 -- The search of a plan over the table of times. Assumes nothing.
-use mathlib.Core.Bool.{Bool, true, false, not, cond}
+use mathlib.Core.Bool.{Bool, cond}
 use mathlib.Core.List.{List, [], _∷_}
 use mathlib.Core.Option.{Option}
 use Prim.Native.Nat.{ℕ, suc, _+_, _-_, _*_}
-use lib.Dec.{leb, ltb, eqb}
+use lib.Dec.{ltb, eqb}
 use lib.Ieee.{Float, le}
 use lib.ListN.{getD}
-use Rattle.lists.specs.Below.{thoseBelow, runOf, eachBelow}
+use Rattle.lists.specs.Below.{runOf, eachBelow}
 use Rattle.lists.specs.First.{firstThat}
 use Rattle.lists.specs.Sort.{sortedBy}
 use Rattle.bitmap.specs.Mask.{maskBelow}

@@ -1,6 +1,6 @@
 -- `assignment::first_time` meets its contract. Assumes nothing.
 use mathlib.Core.Path.{_≡_, refl, sym, ap, _∙_}
-use mathlib.Core.List.{foldl, List}
+use mathlib.Core.List.{foldl}
 use mathlib.Core.Option.{Option, none}
 use Prim.Native.Nat.{_-_, _≤_, _<_, _+_}
 use native.Mathlib.Omega.{arith}

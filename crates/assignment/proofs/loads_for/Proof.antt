@@ -1,8 +1,6 @@
 -- `assignment::loads_for` meets its contract. Assumes nothing.
-use mathlib.Core.Path.{_≡_}
 use native.Mathlib.Omega.{arith}
 use borrow.Author.Needs.{needs}
-use lib.ListN.{length}
 use Rattle.lists.proofs.Lent.{front-inside, front-part, front-taken}
 use Rattle.trimming.proofs.Orders.{order-few}
 use Rattle.assignment.proofs.Parts.{table-small, loads-trimmed}
@@ -35,5 +33,5 @@ loads-for-spec =
     let s = l .before .before .before .before .before in (
       l .loads-at .ensures .0,
       loads-trimmed _ _ _ _ _ _ _ _ (l .loads-at .ensures .0) (front-taken _ _ _ _ (y .trim-order .ensures .0) (y .trim-order .ensures .1) (order-few _ _ _ _ (s .pre .1)))
-      (l .loads-at .ensures .1) (m .trim .ensures),
+          (l .loads-at .ensures .1) (m .trim .ensures),
     )))

@@ -1,8 +1,6 @@
 -- `assignment::plan` meets its contract. Assumes nothing.
-use mathlib.Core.Path.{refl, sym, ap, _∙_}
-use mathlib.Core.List.{List}
+use mathlib.Core.Path.{ap, _∙_}
 use mathlib.Core.Option.{Option}
-use Prim.Native.Nat.{ℕ}
 use borrow.Author.Needs.{needs}
 use Rattle.refusals.specs.Outcome.{Outcome}
 use Rattle.floats.specs.Floats.{found}
