@@ -9,7 +9,7 @@ use native.Mathlib.Numerals.{add-one}
 use native.Mathlib.Omega.{arith}
 use lib.Ieee.{Float}
 use lib.ListN.{length, take, set, replicate}
-use borrow.Author.Tests.{lt-ltb, ne-eqb, not-true, not-false}
+use borrow.Author.Tests.{lt-ltb, not-true, not-false}
 use Rattle.lists.specs.All.{AllOf}
 use Rattle.lists.specs.First.{firstThat, betterBy}
 use Rattle.lists.specs.Sort.{sortedBy}
@@ -30,6 +30,7 @@ use Rattle.times.specs.declared.PeerRecord.{PeerRecord}
 use Rattle.times.specs.Times.{shardLength, timesOf}
 use Rattle.times.specs.TimeLaws.{place-within}
 use Rattle.assignment.specs.Search.{inTimeFrom, runAt, answers, loadAt, answeredAt, loadsAt, candidates, firstTime}
+use Rattle.assignment.specs.SearchLaws.{candidates-fit, peer-run}
 use Rattle.assignment.specs.Plans.{Plan, loadsFor, laidOut, planAt, planOf, planned, pickRefusal, pickOf, copiesRefusal, copiesWritten}
 use Rattle.assignment.specs.PlanLaws.{Sound, pick-sound, copies-sound}
 
@@ -38,9 +39,8 @@ pub begins : (p d : ℕ) → p * (d + 1) ≡ p * suc d
 begins p d = ap (λ (k : ℕ). p * k) (add-one d)
 
 module _ (own d : ℕ) (times : List Float) (t : Float) (p : ℕ) where
-  pub peer-run : {r : ℕ} → (p ≡ own → ⊥) → r ≡ runOf (inTimeFrom times t (p * (d + 1))) (suc d) → r ≡ runAt own d times t p
-  unfolding runAt
-  peer-run n e = e ∙ ap (λ (k : ℕ). runOf (inTimeFrom times t k) (suc d)) (begins p d) ∙ rw (ne-eqb p own n)
+  pub run-of-peer : {r : ℕ} → (p ≡ own → ⊥) → r ≡ runOf (inTimeFrom times t (p * (d + 1))) (suc d) → r ≡ runAt own d times t p
+  run-of-peer n e = e ∙ ap (λ (k : ℕ). runOf (inTimeFrom times t k) (suc d)) (begins p d) ∙ sym (peer-run own d times t p n)
 
 -- ---- `lay_out`
 module _ (n quorum d : ℕ) (total : TotalShards) (faults : List ℕ) (answered : ℕ) (t : Float) (loads rows : List ℕ) {r : Bool} (e : r ≡ layoutCommits n quorum d total answered faults loads) where
@@ -128,14 +128,6 @@ module _ (commits : Float → Bool) where
           → foldl step (cond (f && commits x) (betterBy totalLe b x) b) xs ≡ foldl taking b (cond f (x ∷ candidates xs) (candidates xs))
       go true p q = q
       go false p q = p
-
-  candidates-fit : (times : List Float) → AllOf Fits times → AllOf Fits (candidates times)
-  candidates-fit [] a = tt
-  candidates-fit (x ∷ xs) a = go (isFinite x) (candidates-fit xs (a .1))
-    where
-      go : (f : Bool) → AllOf Fits (candidates xs) → AllOf Fits (cond f (x ∷ candidates xs) (candidates xs))
-      go true r = (a .0, r)
-      go false r = r
 
   pub least-found : (times : List Float) → AllOf Fits times → foldl step none times ≡ firstThat commits (sortedBy totalLe (candidates times))
   least-found times a = over none times ∙ sym (first-is-least commits (candidates times) (candidates-fit times a))

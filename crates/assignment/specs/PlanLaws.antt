@@ -5,14 +5,14 @@ use mathlib.Core.Logic.{_↔_}
 use mathlib.Core.Bool.{Bool, true, false, not, cond}
 use mathlib.Core.List.{List, List·Memᴰ}
 use mathlib.Core.Option.{Option, none, some}
-use Prim.Native.Nat.{ℕ, zero, suc, _^_, _≤_, _<_}
+use Prim.Native.Nat.{ℕ, _^_, _≤_, _<_}
 use native.Mathlib.Decide.{ℕ-discrete, decLt}
 use native.Mathlib.Omega.{arith}
 use lib.Ieee.{Float}
 use lib.ListN.{length, getD, replicate, length-replicate, getD-replicate}
 use lib.Pow.{pow-mono, ones-lt}
 use borrow.Author.Tests.{eqb-true, eq-eqb, ne-eqb, leb-true, le-leb, ltb-true, lt-ltb, not-true, not-false}
-use Rattle.lists.specs.All.{all, AllOf}
+use Rattle.lists.specs.All.{AllOf}
 use Rattle.lists.specs.AllLaws.{all-means}
 use Rattle.lists.specs.BelowLaws.{none-below-means}
 use Rattle.bitmap.specs.Mask.{bit, count, run}
@@ -23,9 +23,9 @@ use Rattle.bitmap.specs.RunCounts.{run-count}
 use Rattle.refusals.specs.Numbers.{TRIMMED}
 use Rattle.refusals.specs.FirstLaws.{none-holds}
 use Rattle.refusals.specs.Limits.{isInFlight, isRow}
-use Rattle.refusals.specs.LimitLaws.{population-means, shards-means, quorum-means, fault-list-means}
-use Rattle.refusals.specs.Outcome.{Outcome, refused, accepted, checked}
-use Rattle.refusals.specs.OutcomeLaws.{accepted-means}
+use Rattle.refusals.specs.LimitLaws.{AreRows, population-means, shards-means, quorum-means, fault-list-means}
+use Rattle.refusals.specs.Outcome.{refused, accepted}
+use Rattle.refusals.specs.OutcomeLaws.{checked-means, accepted-means}
 use Rattle.coverage.specs.Coverage.{rowIn, coversOf}
 use Rattle.coverage.specs.CoverageLaws.{Survives, commits-means, covers-means}
 use Rattle.coverage.specs.RefusalLaws.{FaultList, covers-sound}
@@ -181,17 +181,7 @@ module _ (n own quorum d : ℕ) (total : TotalShards) (faults : List ℕ) (times
       go none q e = q
       go (some t) q e = absurd (laid-some (holds-at t) (planned-at t) e)
 
--- ---- what rows are that `covers` takes: as many as replicas, and of shards below a width that is one for the data shards
-pub record AreRows (n d w : ℕ) (rows : List ℕ) : Type 0 where
-  pub fits : Fit d w
-  pub long : length rows ≡ n
-  pub each : all (isRow w) rows ≡ true
-
 -- ---- `pick_assignment`
-
-checked-means : {A : Type 0} (k : ℕ) (o : Outcome A) (b : A) → (checked k o ≡ accepted b) ↔ ((k ≡ 0) × (o ≡ accepted b))
-checked-means zero o b = (λ e. (refl, e), λ h. h .1)
-checked-means (suc k) o b = (λ e. let z : _≡_ {A = ℕ} 0 1 = cc in absurd (omega arith), λ h. absurd (omega arith))
 
 module _ (n own quorum d : ℕ) (total : TotalShards) (size : ℕ) (peers : List PeerRecord) (penalty : Float) (faults : List ℕ) (rows : ℕ) where
   -- the times of the input, and those that answer by the time of a plan
@@ -222,16 +212,21 @@ module _ (n own quorum d : ℕ) (total : TotalShards) (size : ℕ) (peers : List
 
   -- of any plan
   module _ (p : Plan) (e : pickOf n own quorum d total size peers penalty faults rows ≡ accepted (some p)) where
-    -- its rows are rows of its width
-    pub plan-are-rows : AreRows n d (p .width) (p .rows)
+    fit : Fit d (bound total)
+    fit = pick-sound n own quorum d total size peers faults rows .0 (plan-means p .0 e .0) .shards
+
+    -- its width is one for the data shards
+    pub plan-fits : Fit d (p .width)
+    plan-fits = rw (plan-means p .0 e .1 .width) (width-fits d total (loadsFor n own quorum d total faults times (p .time)) fit)
+
+    -- its rows are rows of that width
+    pub plan-are-rows : AreRows n (p .width) (p .rows)
     unfolding loadsFor
     plan-are-rows =
         let r = plan-means p .0 e in
-        let fit = pick-sound n own quorum d total size peers faults rows .0 (r .0) .shards in
         let loads = loadsFor n own quorum d total faults times (p .time) in
         let long : length loads ≡ n = trimmed-length (layoutCommits n quorum d total (answered p) faults) (trimOrder n own d times) (loadsAt own d times (p .time) n) ∙ loads-length own d times (p .time) n in
-        rw (r .1 .width, r .1 .rows)
-        (record { fits = width-fits d total loads fit; long = rows-length d total loads ∙ long; each = rows-below d total loads fit })
+        rw (r .1 .width, r .1 .rows) (rows-length d total loads ∙ long, rows-below d total loads fit)
 
     -- a quorum of different replicas answers by its time, and without any one listed set there are d different shards, each in the row of one of them outside it
     pub plan-survives : Many quorum (λ s. bit (answered p) s ≡ 1) × Survives n d (answered p) (rowIn (p .rows)) faults
@@ -262,10 +257,10 @@ module _ (n own quorum d : ℕ) (total : TotalShards) (size : ℕ) (peers : List
           covers-sound n d (p .width) (answered p) (p .rows) faults .1
               (record {
                 population = s .population;
-                shards = r .fits;
-                each-row = all-means (isRow (p .width)) 0 (p .rows) .0 (r .each);
+                shards = plan-fits;
+                each-row = all-means (isRow (p .width)) 0 (p .rows) .0 (r .1);
                 mask = answered-below own d times (p .time) n;
-                table = r .long;
+                table = r .0;
                 list = s .list;
               }),
           plan-survives .1,
@@ -279,7 +274,8 @@ pub copies-means : (n d : ℕ) (total : TotalShards) (rows w : ℕ)
 unfolding fullCopiesOf
 copies-means n d total rows w = accepted-means (copiesRefusal n d total rows) (copiesWidth d total) w
 
-copies-fit : (d : ℕ) (total : TotalShards) → Fit d (bound total) → Fit d (copiesWidth d total)
+-- it is one for the data shards
+pub copies-fit : (d : ℕ) (total : TotalShards) → Fit d (bound total) → Fit d (copiesWidth d total)
 copies-fit d (Exactly w) h = h
 copies-fit d (AtMost w) h = (h .0, omega arith, omega arith)
 
@@ -294,15 +290,13 @@ module _ (n d : ℕ) (total : TotalShards) (rows : List ℕ) (e : copiesRefusal 
   pub copies-count : (s : ℕ) → s < n → count (rowIn (copiesWritten n d total rows) s) ≡ d
   copies-count s l = ap count (copies-at s l) ∙ run-count 0 d
 
-  pub copies-are-rows : AreRows n d (copiesWidth d total) (copiesWritten n d total rows)
+  pub copies-are-rows : AreRows n (copiesWidth d total) (copiesWritten n d total rows)
   unfolding copiesWritten
   copies-are-rows =
       let w = copiesWidth d total in
       let h = copies-fit d total (copies-sound n d total (length rows) .0 e .shards) in
       let row : isRow w (run 0 d) ≡ true = lt-ltb (run 0 d) (2 ^ w) (rw run-all (omega (arith, ones-lt d, pow-mono (h .1)))) in
-      rw e
-      (record {
-        fits = h;
-        long = length-replicate n (run 0 d);
-        each = all-means (isRow w) 0 (replicate n (run 0 d)) .1 (λ s l. ap (isRow w) (getD-replicate n s (run 0 d) 0 (rw length-replicate at l)) ∙ row);
-      })
+      rw e (
+        length-replicate n (run 0 d),
+        all-means (isRow w) 0 (replicate n (run 0 d)) .1 (λ s l. ap (isRow w) (getD-replicate n s (run 0 d) 0 (rw length-replicate at l)) ∙ row),
+      )

@@ -3,10 +3,10 @@
 use mathlib.Core.Path.{_≡_, refl, sym, ap, subst, _∙_}
 use mathlib.Core.Logic.{_↔_, _⊎_, inl, inr, ⊎-elim}
 use mathlib.Core.Bool.{Bool, true, false, cond, true≢false}
-use mathlib.Core.List.{List, [], _∷_, List·Memᴰ, List·Memᴰ·head, List·Memᴰ·tail, List·Memᴰ·not-nil, List·Memᴰ·cases-cons, List·Memᴰ·eq-of-singleton, List·Memᴰ·append-cases, Memᴰ·append-left, Memᴰ·append-right}
+use mathlib.Core.List.{List, [], _∷_, List·Memᴰ, List·Memᴰ·head, List·Memᴰ·tail, List·Memᴰ·not-nil, List·Memᴰ·cases-cons}
 use mathlib.Core.Option.{none, some}
 use Prim.Native.Nat.{ℕ, zero, suc, _+_, _-_, _*_, _/_, _%_, _^_, _≤_, _<_}
-use native.Mathlib.Nat.{not-suc-le-zero, zero-lt-suc, mod-lt, div-lt-iff-lt-mul, le-of-suc-le-suc, eq-or-lt-of-le}
+use native.Mathlib.Nat.{not-suc-le-zero, zero-lt-suc, mod-lt, div-lt-iff-lt-mul, le-of-suc-le-suc}
 use native.Mathlib.Decide.{ℕ-discrete}
 use native.Mathlib.Omega.{arith}
 use lib.Ieee.{Float, le}
@@ -14,7 +14,7 @@ use lib.ListN.{length, getD}
 use borrow.Author.Tests.{ltb-true, ltb-false, lt-ltb, eqb-true, eq-eqb, ne-eqb}
 use Rattle.lists.specs.All.{AllOf}
 use Rattle.lists.specs.Below.{eachBelow, runOf}
-use Rattle.lists.specs.BelowLaws.{Run, run-is, each-below-length, each-below-at}
+use Rattle.lists.specs.BelowLaws.{Run, run-is, each-below-length, each-below-at, each-below-listed}
 use Rattle.lists.specs.FirstLaws.{FirstIn, first-means, none-means}
 use Rattle.bitmap.specs.Mask.{bit, hasBit}
 use Rattle.bitmap.specs.WidthLaws.{mask-below-lt, mask-below-bit}
@@ -56,7 +56,7 @@ back x (y ∷ ys) m f = go (isFinite y) refl (List·Memᴰ·cases-cons m) (λ r.
 pub candidate-means : (x : Float) (times : List Float) → List·Memᴰ x (candidates times) ↔ (List·Memᴰ x times × (isFinite x ≡ true))
 candidate-means x times = (forth x times, λ h. back x times (h .0) (h .1))
 
-candidates-fit : (times : List Float) → AllOf Fits times → AllOf Fits (candidates times)
+pub candidates-fit : (times : List Float) → AllOf Fits times → AllOf Fits (candidates times)
 candidates-fit [] a = tt
 candidates-fit (x ∷ xs) a = go (isFinite x) (candidates-fit xs (a .1))
   where
@@ -65,23 +65,6 @@ candidates-fit (x ∷ xs) a = go (isFinite x) (candidates-fit xs (a .1))
     go false ih = ih
 
 -- ---- and so the finite times of some replica with some load
-
-listed : {A : Type 0} (f : ℕ → A) (k : ℕ) (x : A) → List·Memᴰ x (eachBelow f k) → (i : ℕ) × (i < k) × (f i ≡ x)
-unfolding eachBelow
-listed f zero x m = absurd (List·Memᴰ·not-nil m)
-listed {A} f (suc k) x m = go (listed f k x) (List·Memᴰ·append-cases (eachBelow f k) m)
-  where
-    go : (List·Memᴰ x (eachBelow f k) → (i : ℕ) × (i < k) × (f i ≡ x)) → List·Memᴰ x (eachBelow f k) ⊎ List·Memᴰ x (f k ∷ []) → (i : ℕ) × (i < suc k) × (f i ≡ x)
-    go ih (inl r) = let p = ih r in (p .0, omega (arith, p .1), p .2)
-    go ih (inr r) = (k, omega arith, sym (List·Memᴰ·eq-of-singleton r))
-
-placed : {A : Type 0} (f : ℕ → A) (k i : ℕ) (x : A) → i < k → f i ≡ x → List·Memᴰ x (eachBelow f k)
-unfolding eachBelow
-placed f zero i x h e = absurd (not-suc-le-zero h)
-placed {A} f (suc k) i x h e = ⊎-elim
-    (λ (q : i ≡ k). Memᴰ·append-right (eachBelow f k) (List·Memᴰ·head (sym e ∙ ap f q)))
-    (λ (l : i < k). Memᴰ·append-left (f k ∷ []) (placed f k i x l e))
-    (eq-or-lt-of-le (le-of-suc-le-suc h))
 
 module _ (n own d len : ℕ) (peers : List PeerRecord) (penalty : Float) where
   -- x is the finite time of a replica with some load up to d
@@ -100,19 +83,19 @@ module _ (n own d len : ℕ) (peers : List PeerRecord) (penalty : Float) where
       let c = candidate-means x (eachBelow f (n * suc d)) in (
         λ m.
             let r = c .0 m in
-            let p = listed f (n * suc d) x (r .0) in
+            let p = each-below-listed f (n * suc d) x .0 (r .0) in
             record {
-              replica = p .0 / suc d;
-              load = p .0 % suc d;
-              known = div-lt-iff-lt-mul (zero-lt-suc d) .1 (p .1);
-              fits = le-of-suc-le-suc (mod-lt (p .0) (zero-lt-suc d));
-              time = p .2;
+              replica = p .place / suc d;
+              load = p .place % suc d;
+              known = div-lt-iff-lt-mul (zero-lt-suc d) .1 (p .small);
+              fits = le-of-suc-le-suc (mod-lt (p .place) (zero-lt-suc d));
+              time = p .here;
               finite = r .1;
             },
         λ h.
             let i = h .replica * suc d + h .load in
             let e : f i ≡ x = rw (place-row d (h .replica) (h .load) (h .fits), place-load d (h .replica) (h .load) (h .fits)) (h .time) in
-            c .1 (placed f (n * suc d) i x (place-within d (h .replica) (h .load) (h .fits) n (h .known)) e, h .finite),
+            c .1 (each-below-listed f (n * suc d) x .1 (record { place = i; small = place-within d (h .replica) (h .load) (h .fits) n (h .known); here = e }), h .finite),
       )
 
 -- ---- who answers at a time, and with how many shards
@@ -121,7 +104,7 @@ module _ (own d : ℕ) (times : List Float) (t : Float) where
   unfolding runAt
   own-run p e = rw (eq-eqb p own e)
 
-  peer-run : (p : ℕ) → (p ≡ own → ⊥) → runAt own d times t p ≡ runOf (inTime own d times t p) (suc d)
+  pub peer-run : (p : ℕ) → (p ≡ own → ⊥) → runAt own d times t p ≡ runOf (inTime own d times t p) (suc d)
   unfolding runAt
   peer-run p h = rw (ne-eqb p own h)
 

@@ -1,8 +1,8 @@
 -- Layouts (`layout_rows`, `layout_commits`): the width and the rows of given loads, and whether they commit. Assumes nothing.
 use mathlib.Core.Bool.{Bool, cond}
 use mathlib.Core.List.{List, [], _∷_}
-use Prim.Native.Nat.{ℕ, _+_, _≤_}
-use lib.Dec.{leb, ltb, eqb}
+use Prim.Native.Nat.{ℕ, _+_, _≤_, min, max}
+use lib.Dec.{ltb, eqb}
 use lib.ListN.{length, getD, take}
 use Rattle.lists.specs.Below.{eachBelow}
 use Rattle.bitmap.specs.Mask.{hasBit, run, runModulo}
@@ -38,16 +38,10 @@ abbrev pub partial : ℕ → List ℕ → ℕ
 partial d [] = 0
 partial d (k ∷ ks) = dealt d k + partial d ks
 
--- an exact width is used as given; a ceiling gives the least of it and of the larger of sum and d
-abbrev pub smaller : ℕ → ℕ → ℕ
-smaller a b = cond (leb a b) a b
-
-abbrev pub larger : ℕ → ℕ → ℕ
-larger a b = cond (leb a b) b a
-
+-- an exact width is used as given; a ceiling gives min(max(sum, d), ceiling)
 abbrev pub widthFor : ℕ → TotalShards → ℕ → ℕ
 widthFor d (Exactly w) sum = w
-widthFor d (AtMost w) sum = smaller (larger sum d) w
+widthFor d (AtMost w) sum = min (max sum d) w
 
 unfoldable pub widthOf : ℕ → TotalShards → List ℕ → ℕ
 widthOf d total loads = widthFor d total (partial d loads)

@@ -8,11 +8,11 @@ use Prim.Native.Nat.{ℕ, suc, _+_, _*_, _%_, _^_, _≤_, _<_, min, max}
 use native.Mathlib.Nat.{le-refl, mod-eq-of-lt}
 use native.Mathlib.Decide.{le-ind}
 use native.Mathlib.Omega.{arith}
-use lib.Dec.{leb, ltb}
+use lib.Dec.{ltb}
 use lib.ListN.{length, getD, take}
 use lib.Pow.{pow-mono, ones-lt}
 use lib.Seq.{take-suc, take-length}
-use borrow.Author.Tests.{leb-true, leb-false, ltb-true, ltb-false, lt-ltb}
+use borrow.Author.Tests.{ltb-true, ltb-false, lt-ltb}
 use Rattle.lists.specs.All.{all}
 use Rattle.lists.specs.BelowLaws.{each-below-length, each-below-at, each-below-all}
 use Rattle.bitmap.specs.Mask.{bit, count, run, runModulo}
@@ -27,7 +27,7 @@ use Rattle.coverage.specs.Coverage.{rowIn}
 use Rattle.coverage.specs.CoverageLaws.{Survives, commits-means}
 use Rattle.layout.specs.declared.TotalShards.{TotalShards}
 use Rattle.layout.specs.declared.TotalShards.the-variants.{Exactly, AtMost}
-use Rattle.layout.specs.Layout.{Fit, bound, dealt, partial, smaller, larger, widthOf, rowFor, rowAt, rowsOf, layoutCommits, heardLoad, heardLoads, rowsRefusal, layoutRowsOf, commitsRefusal, layoutCommitsOf}
+use Rattle.layout.specs.Layout.{Fit, bound, dealt, partial, widthOf, rowFor, rowAt, rowsOf, layoutCommits, heardLoad, heardLoads, rowsRefusal, layoutRowsOf, commitsRefusal, layoutCommitsOf}
 
 -- ---- what is dealt
 
@@ -58,20 +58,6 @@ partial-le d b (k ∷ ks) h = omega (arith, partial-le d b ks h, dealt-le d k)
 
 -- ---- the width
 
-smaller-is : (a b : ℕ) → smaller a b ≡ min a b
-smaller-is a b = go (leb a b) refl
-  where
-    go : (t : Bool) → leb a b ≡ t → cond t a b ≡ min a b
-    go true q = omega (arith, leb-true a b q)
-    go false q = omega (arith, leb-false a b q)
-
-larger-is : (a b : ℕ) → larger a b ≡ max a b
-larger-is a b = go (leb a b) refl
-  where
-    go : (t : Bool) → leb a b ≡ t → cond t b a ≡ max a b
-    go true q = omega (arith, leb-true a b q)
-    go false q = omega (arith, leb-false a b q)
-
 -- an exact width is used as given
 pub width-exactly : (d w : ℕ) (loads : List ℕ) → widthOf d (Exactly w) loads ≡ w
 unfolding widthOf
@@ -80,7 +66,7 @@ width-exactly d w loads = refl
 -- under a ceiling it is as wide as what is dealt, and as d, asks
 pub width-at-most : (d w : ℕ) (loads : List ℕ) → widthOf d (AtMost w) loads ≡ min (max (partial d loads) d) w
 unfolding widthOf
-width-at-most d w loads = omega (arith, smaller-is (larger (partial d loads) d) w, larger-is (partial d loads) d)
+width-at-most d w loads = refl
 
 module _ (d : ℕ) (total : TotalShards) (loads : List ℕ) where
   -- at most its bound

@@ -1,11 +1,11 @@
 // Layouts: the rows that given loads come to, and whether replies from those that answer commit (layout_rows, layout_commits).
 ghost use mathlib.Core.Path.{_≡_};
 ghost use mathlib.Core.Bool.{cond};
-ghost use Prim.Native.Nat.{_<_, _≤_};
+ghost use Prim.Native.Nat.{_<_, _≤_, min, max};
 ghost use lib.ListN.{length};
 ghost use Rattle.lists.specs.Below.{eachBelow, front};
 ghost use Rattle.bitmap.specs.Mask.{hasBit};
-ghost use Rattle.layout.specs.Layout.{Fit, bound, dealt, partial, smaller, larger, widthOf, rowFor, rowAt, rowsOf, heardLoads, layoutCommits, rowsRefusal, commitsRefusal, laid, tested, layoutRowsOf, layoutCommitsOf, rowsWritten, trialWritten};
+ghost use Rattle.layout.specs.Layout.{Fit, bound, dealt, partial, widthOf, rowFor, rowAt, rowsOf, heardLoads, layoutCommits, rowsRefusal, commitsRefusal, laid, tested, layoutRowsOf, layoutCommitsOf, rowsWritten, trialWritten};
 use bitmap::ReplicaId;
 
 // The number of shards to lay rows out in: exactly that of an existing code scheme, or at most a bound for a new one.
@@ -184,7 +184,7 @@ fn width_of(d: usize, total: TotalShards, loads: &[usize]) -> usize
 
 // The larger of the sum and d, and at most w.
 fn within(sum: usize, d: usize, w: usize) -> usize
-    ensures { λ r. ⌜ r ≡ smaller (larger sum d) w ⌝ }
+    ensures { λ r. ⌜ r ≡ min (max sum d) w ⌝ }
 {
     let least = if sum <= d { d } else { sum };
     if least <= w { least } else { w }

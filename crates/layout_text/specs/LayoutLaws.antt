@@ -13,7 +13,6 @@ use lib.Dec.{leb, eqb}
 use lib.ListN.{length, take, set, getD, replicate, length-set, length-replicate, getD-replicate, List·getD-eq-default}
 use lib.Seq.{length-take-le, getD-set-same, getD-set-other}
 use borrow.Author.Tests.{leb-true, le-leb, eqb-true, eq-eqb, ne-eqb, not-false}
-use Rattle.lists.specs.All.{all}
 use Rattle.lists.specs.AllLaws.{all-means}
 use Rattle.lists.specs.BelowLaws.{each-below-length, each-below-all}
 use Rattle.bitmap.specs.WidthLaws.{none-below, or-below, run-below}
@@ -22,7 +21,7 @@ use Rattle.refusals.specs.First.{unless}
 use Rattle.refusals.specs.FirstLaws.{none-holds}
 use Rattle.refusals.specs.Outcome.{Outcome, refused, accepted, checked, outcome, andThen}
 use Rattle.refusals.specs.Limits.{isPopulation, isShards, isRow}
-use Rattle.refusals.specs.LimitLaws.{population-means, shards-means}
+use Rattle.refusals.specs.LimitLaws.{AreRows, population-means, shards-means}
 use Rattle.numerals.specs.Text.{without, isText, isEmpty, isByte, cut, hasByte, before, behind, split}
 use Rattle.numerals.specs.TextLaws.{PartOf, cut-le}
 use Rattle.numerals.specs.ReadLaws.{read-keeps, read-refused}
@@ -156,16 +155,13 @@ no-colon-refused n d total s {k} h e = go (lengthOf n d total s) (sym (no-colon 
 
 -- ---- the rows of a text that was read: one for each replica, of shards below the total
 module _ (n total : ℕ) where
-  abbrev pub AreRows : List ℕ → Type 0
-  AreRows rows = (length rows ≡ n) × (all (isRow total) rows ≡ true)
-
-  pub runs-are-rows : (k : ℕ) → 0 < total → AreRows (runsOf n total k)
+  pub runs-are-rows : (k : ℕ) → 0 < total → AreRows n total (runsOf n total k)
   runs-are-rows k p = (
     each-below-length (runAt n total k) n,
     each-below-all (runAt n total k) (isRow total) 0 n (λ r h. run-below total (r * share n total) k p),
   )
 
-  none-are-rows : AreRows (replicate n 0)
+  none-are-rows : AreRows n total (replicate n 0)
   none-are-rows = (
     length-replicate n 0,
     all-means (isRow total) 0 (replicate n 0) .1 (λ i h.
@@ -173,7 +169,7 @@ module _ (n total : ℕ) where
   )
 
   -- one more row
-  module _ (rows : List ℕ) (h : AreRows rows) where
+  module _ (rows : List ℕ) (h : AreRows n total rows) where
     at : (i : ℕ) → isRow total (getD rows i 0) ≡ true
     at i = go (decLt i (length rows))
       where
@@ -181,7 +177,7 @@ module _ (n total : ℕ) where
         go (yes l) = all-means (isRow total) 0 rows .0 (h .1) i l
         go (no l) = ap (isRow total) (List·getD-eq-default rows 0 {n = i} (omega arith)) ∙ none-below total
 
-    set-are-rows : (r m : ℕ) → isRow total m ≡ true → AreRows (set rows r (bitOr (getD rows r 0) m))
+    set-are-rows : (r m : ℕ) → isRow total m ≡ true → AreRows n total (set rows r (bitOr (getD rows r 0) m))
     set-are-rows r m g = (
       length-set rows r (bitOr (getD rows r 0) m) ∙ h .0,
       all-means (isRow total) 0 (set rows r (bitOr (getD rows r 0) m)) .1 (λ i l.
@@ -194,27 +190,27 @@ module _ (n total : ℕ) where
             ∙ ap (isRow total) (getD-set-same rows r (bitOr (getD rows r 0) m) 0 (omega arith)) ∙ or-below total (getD rows r 0) m (at r) g
         go i (no q) l = ap (isRow total) (getD-set-other rows r i (bitOr (getD rows r 0) m) 0 q) ∙ at i
 
-  segment-keeps : (rows new : List ℕ) (s : List ℕ) → AreRows rows → segmentIn n total rows s ≡ accepted new → AreRows new
+  segment-keeps : (rows new : List ℕ) (s : List ℕ) → AreRows n total rows → segmentIn n total rows s ≡ accepted new → AreRows n total new
   unfolding segmentIn
   segment-keeps rows new s h e = go (segmentOf n total s) (λ r m q. segment-row n total s q) e
     where
       go : (o : Outcome (ℕ × ℕ)) → ((r m : ℕ) → o ≡ accepted (r, m) → isRow total m ≡ true)
-          → andThen o (λ x. accepted (set rows (x .0) (bitOr (getD rows (x .0) 0) (x .1)))) ≡ accepted new → AreRows new
+          → andThen o (λ x. accepted (set rows (x .0) (bitOr (getD rows (x .0) 0) (x .1)))) ≡ accepted new → AreRows n total new
       go (refused k) u e = let z : _≡_ {A = ℕ} 0 1 = cc in absurd (omega arith)
       go (accepted x) u e =
           let z : set rows (x .0) (bitOr (getD rows (x .0) 0) (x .1)) ≡ new = cc in
-          subst AreRows z (set-are-rows rows h (x .0) (x .1) (u (x .0) (x .1) refl))
+          subst (AreRows n total) z (set-are-rows rows h (x .0) (x .1) (u (x .0) (x .1) refl))
 
-  pub segments-are-rows : (s : List ℕ) {rows : List ℕ} → segmentsOf n total s ≡ accepted rows → AreRows rows
+  pub segments-are-rows : (s : List ℕ) {rows : List ℕ} → segmentsOf n total s ≡ accepted rows → AreRows n total rows
   unfolding segmentsOf
-  segments-are-rows s e = read-keeps AreRows (segmentIn n total) (λ a b p. segment-keeps a b p) (replicate n 0) (split 47 s) none-are-rows e
+  segments-are-rows s e = read-keeps (AreRows n total) (segmentIn n total) (λ a b p. segment-keeps a b p) (replicate n 0) (split 47 s) none-are-rows e
 
-  pub layout-are-rows : (d : ℕ) (s : List ℕ) {rows : List ℕ} → 0 < total → layoutOf n d total s ≡ accepted rows → AreRows rows
+  pub layout-are-rows : (d : ℕ) (s : List ℕ) {rows : List ℕ} → 0 < total → layoutOf n d total s ≡ accepted rows → AreRows n total rows
   unfolding layoutOf
   layout-are-rows d s {rows} p e = go (lengthOf n d total s) e
     where
-      go : (o : Outcome ℕ) → orSegments n total s o ≡ accepted rows → AreRows rows
-      go (accepted k) e = let z : runsOf n total k ≡ rows = cc in subst AreRows z (runs-are-rows k p)
+      go : (o : Outcome ℕ) → orSegments n total s o ≡ accepted rows → AreRows n total rows
+      go (accepted k) e = let z : runsOf n total k ≡ rows = cc in subst (AreRows n total) z (runs-are-rows k p)
       go (refused k) e = segments-are-rows s e
 
 -- ---- what the checks let through

@@ -154,6 +154,33 @@ module _ {A : Type 0} (f : ℕ → A) where
       (λ (l : i < k). List·getD-append (eachBelow f k) (f k ∷ []) d i (omega (arith, each-below-length k)) ∙ each-below-at k i d l)
       (eq-or-lt-of-le (le-of-suc-le-suc h))
 
+  -- x is one of them, and at which place
+  pub record Placed (k : ℕ) (x : A) : Type 0 where
+    pub place : ℕ
+    pub small : place < k
+    pub here : f place ≡ x
+
+  listed : (k : ℕ) (x : A) → List·Memᴰ x (eachBelow f k) → Placed k x
+  unfolding eachBelow
+  listed zero x m = absurd (List·Memᴰ·not-nil m)
+  listed (suc k) x m = go (listed k x) (List·Memᴰ·append-cases (eachBelow f k) m)
+    where
+      go : (List·Memᴰ x (eachBelow f k) → Placed k x) → List·Memᴰ x (eachBelow f k) ⊎ List·Memᴰ x (f k ∷ []) → Placed (suc k) x
+      go ih (inl r) = let p = ih r in record { place = p .place; small = omega (arith, p .small); here = p .here }
+      go ih (inr r) = record { place = k; small = omega arith; here = sym (List·Memᴰ·eq-of-singleton r) }
+
+  there : (k i : ℕ) (x : A) → i < k → f i ≡ x → List·Memᴰ x (eachBelow f k)
+  unfolding eachBelow
+  there zero i x h e = absurd (not-suc-le-zero h)
+  there (suc k) i x h e =
+      ⊎-elim
+      (λ (q : i ≡ k). Memᴰ·append-right (eachBelow f k) (List·Memᴰ·head (sym e ∙ ap f q)))
+      (λ (l : i < k). Memᴰ·append-left (f k ∷ []) (there k i x l e))
+      (eq-or-lt-of-le (le-of-suc-le-suc h))
+
+  pub each-below-listed : (k : ℕ) (x : A) → List·Memᴰ x (eachBelow f k) ↔ Placed k x
+  each-below-listed k x = (listed k x, λ p. there k (p .place) x (p .small) (p .here))
+
   -- a test that each of them passes
   pub each-below-all : (p : A → Bool) (d : A) (k : ℕ) → ((i : ℕ) → i < k → p (f i) ≡ true) → all p (eachBelow f k) ≡ true
   each-below-all p d k h =

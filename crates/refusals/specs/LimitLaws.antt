@@ -13,7 +13,7 @@ use Rattle.lists.specs.All.{all}
 use Rattle.lists.specs.AllLaws.{Each, all-means}
 use Rattle.bitmap.specs.Mask.{bit, allBelow}
 use Rattle.bitmap.specs.MaskLaws.{below-means, full-bit, full}
-use Rattle.refusals.specs.Limits.{isPopulation, isShards, isQuorum, isMask, isFaultSet, isFaultList, isUnder}
+use Rattle.refusals.specs.Limits.{isPopulation, isShards, isQuorum, isMask, isRow, isFaultSet, isFaultList, isUnder}
 
 -- a bound and what else is tested
 bound : (a b : ℕ) (t : Bool) → ((leb a b && t) ≡ true) ↔ ((a ≤ b) × (t ≡ true))
@@ -86,3 +86,7 @@ fault-list-means n faults = (
       and-eq-true-iff (not (eqb (length faults) 0)) (all (isFaultSet n) faults) .1
       (ap not (ne-eqb (length faults) 0 (h .0)), all-means (isFaultSet n) 0 faults .1 (h .1)),
 )
+
+-- as many rows as replicas, each of shards below the width: what the checks for 16 and 17 ask of a table of rows
+abbrev pub AreRows : ℕ → ℕ → List ℕ → Type 0
+AreRows n w rows = (length rows ≡ n) × (all (isRow w) rows ≡ true)

@@ -4,7 +4,7 @@ use native.Mathlib.Omega.{arith}
 use borrow.Author.Needs.{needs}
 use borrow.Author.Tests.{eq-eqb}
 use Rattle.assignment.specs.Search.{runAt}
-use Rattle.assignment.proofs.Parts.{begins, peer-run}
+use Rattle.assignment.proofs.Parts.{begins, run-of-peer}
 use Rattle.assignment.proofs.run_at.Statement.{statement}
 use Rattle.assignment.proofs.run_at.Tie as tie
 
@@ -26,4 +26,4 @@ run-at-spec =
     (search needs, omega (arith, h, s .pre .1)))
     (λ c.
     let a = c .before .before .before .before .before .before .args in
-    peer-run (a .own .0) (a .d) (a .times .now) (a .t) (a .p .0) (c .before .before .if1 .left) (c .run-from .ensures)))
+    run-of-peer (a .own .0) (a .d) (a .times .now) (a .t) (a .p .0) (c .before .before .if1 .left) (c .run-from .ensures)))
