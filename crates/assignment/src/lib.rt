@@ -340,7 +340,7 @@ fn commits_at(
     layout::commits(n, quorum, d, total, answered, faults, &loads[..n])
 }
 
-// The most shards that each replica can persist by a time, and the mask of those that can persist any or none.
+// The most shards that each replica can persist by a time, and the mask of those that answer by then.
 fn loads_at(n: usize, own: ReplicaId, d: usize, times: &[f64], t: f64, loads: &mut [usize]) -> u64
     requires { ⌜ (d ≤ 64) × (n ≤ 16) × (length (now times) ≡ n * suc d) × (length (now loads) ≡ n) ⌝ }
     ensures mask { λ r. ⌜ r ≡ answeredAt (own .0) d (now (times .entry)) t n ⌝ }
