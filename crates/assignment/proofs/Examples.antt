@@ -112,6 +112,8 @@ sheet =
     ∷ line 1 0 1 2 (AtMost 3) 2097152 (silent ∷ []) 0 nobody 1 (plan 0 2 (3 ∷ []))
     ∷ line 3 0 3 2 (AtMost 3) 2097152 both 0 nobody 3 (plan one 2 (3 ∷ 0 ∷ 0 ∷ []))
     ∷ line 3 0 3 2 (AtMost 3) 2097152 (silent ∷ usual ∷ silent ∷ []) 0 nobody 3 (accepted none)
+    -- a candidate outside the run: falling times, of which the last is taken, where nobody but ourselves has to answer
+    ∷ line 2 0 1 2 (AtMost 3) 2097152 (silent ∷ heard 0xbff0_0000_0000_0000 0 0 0 0 ∷ []) 0 nobody 2 (plan 0xc000_0000_0000_0000 2 (3 ∷ 0 ∷ []))
     -- the largest population and ceiling
     ∷ line 16 0 1 2 (AtMost 64) 2097152 (silent ∷ []) 0 nobody 16 (plan 0 2 (3 ∷ 0 ∷ 0 ∷ 0 ∷ 0 ∷ 0 ∷ 0 ∷ 0 ∷ 0 ∷ 0 ∷ 0 ∷ 0 ∷ 0 ∷ 0 ∷ 0 ∷ 0 ∷ []))
     -- our own is the last; bytes in flight; unreliability at a penalty
