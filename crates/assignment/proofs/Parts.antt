@@ -7,8 +7,8 @@ use Prim.Native.Nat.{ℕ, zero, suc, _+_, _-_, _*_, _≤_, _<_, suc-le-suc}
 use native.Mathlib.Nat.{le-refl, mul-le-mul}
 use native.Mathlib.Numerals.{add-one}
 use native.Mathlib.Omega.{arith}
-use lib.Ieee.{Float}
-use lib.ListN.{length, take, set, replicate}
+use lib.Ieee.{Float, le}
+use lib.ListN.{length, getD, take, set, replicate}
 use borrow.Author.Tests.{lt-ltb, not-true, not-false}
 use Rattle.lists.specs.All.{AllOf}
 use Rattle.lists.specs.First.{firstThat, betterBy}
@@ -16,7 +16,7 @@ use Rattle.lists.specs.Sort.{sortedBy}
 use Rattle.lists.specs.Below.{runOf, eachBelow, front}
 use Rattle.lists.proofs.BelowLoops.{front-all, each-more}
 use Rattle.bitmap.specs.Mask.{withBit, maskBelow, run}
-use Rattle.bitmap.specs.WidthLaws.{mask-yes, mask-no}
+use Rattle.bitmap.proofs.MaskLoops.{mask-yes, mask-no}
 use Rattle.floats.specs.Floats.{isFinite, totalLe, precedes}
 use Rattle.floats.specs.FirstLaws.{Fits, first-is-least, taken-means}
 use Rattle.refusals.specs.Numbers.{TRIMMED}
@@ -27,9 +27,9 @@ use Rattle.layout.specs.LayoutLaws.{rows-length}
 use Rattle.trimming.specs.Order.{trimOrder}
 use Rattle.trimming.specs.Trimming.{trimmed}
 use Rattle.times.specs.declared.PeerRecord.{PeerRecord}
-use Rattle.times.specs.Times.{shardLength, timesOf}
+use Rattle.times.specs.Times.{never, shardLength, timesOf}
 use Rattle.times.specs.TimeLaws.{place-within}
-use Rattle.assignment.specs.Search.{inTimeFrom, runAt, answers, loadAt, answeredAt, loadsAt, candidates, firstTime}
+use Rattle.assignment.specs.Search.{runAt, answers, loadAt, answeredAt, loadsAt, candidates, firstTime}
 use Rattle.assignment.specs.SearchLaws.{candidates-fit, peer-run}
 use Rattle.assignment.specs.Plans.{Plan, loadsFor, laidOut, planAt, planOf, planned, pickRefusal, pickOf, copiesRefusal, copiesWritten}
 use Rattle.assignment.specs.PlanLaws.{Sound, pick-sound, copies-sound}
@@ -37,6 +37,10 @@ use Rattle.assignment.specs.PlanLaws.{Sound, pick-sound, copies-sound}
 -- ---- `run_at`: the place where a peer's times begin
 pub begins : (p d : ℕ) → p * (d + 1) ≡ p * suc d
 begins p d = ap (λ (k : ℕ). p * k) (add-one d)
+
+-- the time k places from a place on is at most t
+abbrev pub inTimeFrom : List Float → Float → ℕ → ℕ → Bool
+inTimeFrom times t from k = le (getD times (from + k) never) t
 
 module _ (own d : ℕ) (times : List Float) (t : Float) (p : ℕ) where
   pub run-of-peer : {r : ℕ} → (p ≡ own → ⊥) → r ≡ runOf (inTimeFrom times t (p * (d + 1))) (suc d) → r ≡ runAt own d times t p

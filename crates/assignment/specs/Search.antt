@@ -2,10 +2,9 @@
 use mathlib.Core.Bool.{Bool, cond}
 use mathlib.Core.List.{List, [], _∷_}
 use mathlib.Core.Option.{Option}
-use Prim.Native.Nat.{ℕ, suc, _+_, _-_, _*_}
+use Prim.Native.Nat.{ℕ, suc, _-_}
 use lib.Dec.{ltb, eqb}
 use lib.Ieee.{Float, le}
-use lib.ListN.{getD}
 use Rattle.lists.specs.Below.{runOf, eachBelow}
 use Rattle.lists.specs.First.{firstThat}
 use Rattle.lists.specs.Sort.{sortedBy}
@@ -13,7 +12,7 @@ use Rattle.bitmap.specs.Mask.{maskBelow}
 use Rattle.floats.specs.Floats.{isFinite, totalLe}
 use Rattle.layout.specs.declared.TotalShards.{TotalShards}
 use Rattle.layout.specs.Layout.{layoutCommits}
-use Rattle.times.specs.Times.{never}
+use Rattle.times.specs.Times.{timeIn}
 
 -- ---- candidates
 
@@ -24,14 +23,10 @@ candidates (x ∷ xs) = cond (isFinite x) (x ∷ candidates xs) (candidates xs)
 
 -- ---- loads at a time
 
--- the time k places from a place on is at most t, as numbers
-abbrev pub inTimeFrom : List Float → Float → ℕ → ℕ → Bool
-inTimeFrom times t from k = le (getD times (from + k) never) t
-
 module _ (own d : ℕ) (times : List Float) (t : Float) where
-  -- with k shards p replies by the time t: `timeIn d times p k` is at most t
+  -- with k shards p replies by the time t: at most t as numbers
   abbrev pub inTime : ℕ → ℕ → Bool
-  inTime p = inTimeFrom times t (p * suc d)
+  inTime p k = le (timeIn d times p k) t
 
   -- how many loads, from 0 on in an unbroken run, are in time; our own are all
   unfoldable pub runAt : ℕ → ℕ

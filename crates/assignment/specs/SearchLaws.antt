@@ -9,6 +9,7 @@ use Prim.Native.Nat.{ℕ, zero, suc, _+_, _-_, _*_, _/_, _%_, _^_, _≤_, _<_}
 use native.Mathlib.Nat.{not-suc-le-zero, zero-lt-suc, mod-lt, div-lt-iff-lt-mul, le-of-suc-le-suc}
 use native.Mathlib.Decide.{ℕ-discrete}
 use native.Mathlib.Omega.{arith}
+use lib.Dec.{ltb, eqb}
 use lib.Ieee.{Float, le}
 use lib.ListN.{length, getD}
 use borrow.Author.Tests.{ltb-true, ltb-false, lt-ltb, eqb-true, eq-eqb, ne-eqb}
@@ -16,12 +17,14 @@ use Rattle.lists.specs.All.{AllOf}
 use Rattle.lists.specs.Below.{eachBelow, runOf}
 use Rattle.lists.specs.BelowLaws.{Run, run-is, each-below-length, each-below-at, each-below-listed}
 use Rattle.lists.specs.FirstLaws.{FirstIn, first-means, none-means}
-use Rattle.bitmap.specs.Mask.{bit, hasBit}
+use Rattle.bitmap.specs.Mask.{bit, hasBit, maskBelow}
 use Rattle.bitmap.specs.WidthLaws.{mask-below-lt, mask-below-bit}
 use Rattle.floats.specs.Floats.{isFinite, totalLe}
+use Rattle.floats.specs.NumberLaws.{le-trans}
 use Rattle.floats.specs.OrderLaws as Order
 use Rattle.floats.specs.FirstLaws.{Fits}
 use Rattle.layout.specs.declared.TotalShards.{TotalShards}
+use Rattle.layout.specs.Layout.{layoutCommits}
 use Rattle.times.specs.declared.PeerRecord.{PeerRecord}
 use Rattle.times.specs.Times.{timeOf, cell, timesOf, timeIn}
 use Rattle.times.specs.TimeLaws.{place-row, place-load, place-within}
@@ -195,6 +198,27 @@ module _ (own d : ℕ) (times : List Float) (t : Float) where
       silent-load z =
           let f = ltb-false 0 (runAt own d times t p) (sym bit-is ∙ ne-eqb (bit (answeredAt own d times t n) p) 1 (omega arith)) in
           omega (arith, loads-at, f)
+
+-- ---- times that are level as numbers, as -0 and +0 are, give the same loads: of such candidates only the first can be the one that is taken
+module _ (s t : Float) (under : le s t ≡ true) (over : le t s ≡ true) where
+  level : (x : Float) → le x s ≡ le x t
+  level x = go (le x s) (le x t) refl refl
+    where
+      go : (u v : Bool) → le x s ≡ u → le x t ≡ v → le x s ≡ le x t
+      go true v e f = e ∙ sym (le-trans x s t e under)
+      go false true e f = absurd (true≢false (sym (le-trans x t s f over) ∙ e))
+      go false false e f = e ∙ sym f
+
+  same-run : (own d : ℕ) (times : List Float) (p : ℕ) → runAt own d times s p ≡ runAt own d times t p
+  unfolding runAt
+  same-run own d times p = ap (λ (f : ℕ → Bool). cond (eqb p own) (suc d) (runOf f (suc d))) (λ i k. level (timeIn d times p k) i)
+
+  pub level-commits : (n own quorum d : ℕ) (total : TotalShards) (faults : List ℕ) (times : List Float)
+      → commitsAt n own quorum d total faults times s ≡ commitsAt n own quorum d total faults times t
+  unfolding commitsAt answeredAt loadsAt
+  level-commits n own quorum d total faults times =
+      ap (λ (r : ℕ → ℕ). layoutCommits n quorum d total (maskBelow (λ (p : ℕ). ltb 0 (r p)) n) faults (eachBelow (λ (p : ℕ). r p - 1) n))
+      (λ i p. same-run own d times p i)
 
 -- ---- the first time that commits
 

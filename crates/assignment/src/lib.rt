@@ -2,13 +2,15 @@
 ghost use mathlib.Core.Path.{_≡_};
 ghost use mathlib.Core.Bool.{cond, _&&_};
 ghost use mathlib.Core.Option.{some};
-ghost use Prim.Native.Nat.{suc, _+_, _*_, _<_, _≤_};
-ghost use lib.ListN.{length, replicate};
+ghost use Prim.Native.Nat.{ℕ, suc, _+_, _*_, _<_, _≤_};
+ghost use lib.Ieee.{le};
+ghost use lib.ListN.{length, getD, replicate};
 ghost use Rattle.lists.specs.Below.{runOf};
 ghost use Rattle.lists.specs.First.{betterBy};
 ghost use Rattle.floats.specs.Floats.{isFinite, totalLe, found};
 ghost use Rattle.layout.specs.Layout.{Fit, bound, laid};
-ghost use Rattle.assignment.specs.Search.{inTimeFrom, runAt, answeredAt, loadsAt, commitsAt, firstTime};
+ghost use Rattle.times.specs.Times.{never};
+ghost use Rattle.assignment.specs.Search.{runAt, answeredAt, loadsAt, commitsAt, firstTime};
 ghost use Rattle.assignment.specs.Plans.{loadsFor, laidOut, planAt, planOf, isOverfull, peersFit, pickRefusal, picked, pickOf, planned, copiesRefusal, copiesWidth, fullCopiesOf, copiesWritten};
 use bitmap::ReplicaId;
 use floats::Found;
@@ -375,7 +377,7 @@ fn run_at(own: ReplicaId, d: usize, times: &[f64], t: f64, p: ReplicaId) -> usiz
 // How many times from a place on, in an unbroken run of at most d + 1, are at most t.
 fn run_from(d: usize, times: &[f64], from: usize, t: f64) -> usize
     requires { ⌜ (d ≤ 64) × (from + d < length (now times)) ⌝ }
-    ensures { λ r. ⌜ r ≡ runOf (inTimeFrom (now (times .entry)) t from) (suc d) ⌝ }
+    ensures { λ r. ⌜ r ≡ runOf (λ (k : ℕ). le (getD (now (times .entry)) (from + k) never) t) (suc d) ⌝ }
 {
     let mut k = 0;
     while k <= d {

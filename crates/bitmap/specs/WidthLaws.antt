@@ -5,7 +5,6 @@ use mathlib.Core.Bool.{Bool, true, false, cond}
 use Prim.Native.Nat.{ℕ, zero, suc, _+_, _%_, _^_, _≤_, _<_}
 use native.Mathlib.Nat.{mod-lt, pow-suc, le-refl, not-suc-le-zero, le-of-suc-le-suc, eq-or-lt-of-le}
 use native.Mathlib.Decide.{ℕ-discrete}
-use native.Mathlib.Numerals.{add-one}
 use native.Mathlib.Omega.{arith}
 use lib.Bits.{bitOr, or-lt}
 use lib.Pow.{pow-pos, pow-lt}
@@ -65,16 +64,3 @@ module _ (f : ℕ → Bool) where
           let e : bit (withBit (maskBelow f k) k) s ≡ bit (maskBelow f k) s = omega (arith, bit-with (maskBelow f k) k s, bit-other k s (λ (e : s ≡ k). omega arith)) in
           ap (λ (x : ℕ). eqb x 1) e
       there false l = refl
-
-  -- no number, and one more
-  pub mask-none : 0 ≡ maskBelow f 0
-  unfolding maskBelow
-  mask-none = refl
-
-  pub mask-yes : (k : ℕ) → f k ≡ true → maskBelow f (k + 1) ≡ withBit (maskBelow f k) k
-  unfolding maskBelow
-  mask-yes k e = rw (add-one, e)
-
-  pub mask-no : (k : ℕ) → f k ≡ false → maskBelow f (k + 1) ≡ maskBelow f k
-  unfolding maskBelow
-  mask-no k e = rw (add-one, e)

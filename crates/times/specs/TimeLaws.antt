@@ -3,20 +3,19 @@ use mathlib.Core.Path.{_≡_, refl, sym, ap, subst, _∙_}
 use mathlib.Core.Logic.{_⊎_, inl, inr}
 use mathlib.Core.Bool.{Bool, true, false}
 use mathlib.Core.List.{List}
-use Prim.Native.Nat.{ℕ, zero, suc, _+_, _-_, _*_, _/_, _%_, _^_, _≤_, _<_, suc-le-suc}
-use borrow.Author.Tests.{eq-eqb, ne-eqb}
-use native.Mathlib.Nat.{suc-ne-zero, suc-mul, mul-le-mul-right, zero-lt-suc, div-eq-of-lt, mod-eq-of-lt, mul-add-div-right, mul-add-mod-self-right, div-lt-iff-lt-mul, lt-div-mul-add, le-of-suc-le-suc}
+use Prim.Native.Nat.{ℕ, suc, _+_, _-_, _*_, _/_, _%_, _^_, _≤_, _<_, suc-le-suc, max}
+use native.Mathlib.Nat.{suc-mul, mul-le-mul-right, zero-lt-suc, div-eq-of-lt, mod-eq-of-lt, mul-add-div-right, mul-add-mod-self-right, div-lt-iff-lt-mul, lt-div-mul-add, le-of-suc-le-suc}
 use native.Mathlib.Omega.{arith}
 use lib.Ieee.{Float, nan, inf, fin, binary64, fits, add, mul}
 use lib.Ieee.Fits.{inf-fits, cond-fits, add-fits}
-use lib.ListN.{length, getD}
+use lib.ListN.{length}
 use Rattle.lists.specs.All.{AllOf}
 use Rattle.lists.specs.AllLaws.{all-of-means}
 use Rattle.lists.specs.Below.{eachBelow}
 use Rattle.lists.specs.BelowLaws.{each-below-length, each-below-at}
 use Rattle.floats.specs.Floats.{plusZero, isFinite}
 use Rattle.floats.specs.FirstLaws.{Fits}
-use Rattle.times.specs.Times.{never, predictOf, settled, replyTime, timeAt, shardLength, atLeastOne, timeOf, cell, timesOf}
+use Rattle.times.specs.Times.{never, predictOf, settled, replyTime, timeAt, shardLength, timeOf, cell, timesOf, timeIn}
 use Rattle.times.specs.declared.Peer.{Peer}
 use Rattle.times.specs.declared.Peer.the-variants.{Silent, Heard}
 use Rattle.times.specs.declared.PeerRecord.{PeerRecord}
@@ -70,7 +69,7 @@ module _ (n own d len : ℕ) (records : List PeerRecord) (penalty : Float) where
   unfolding timesOf
   times-length = each-below-length (cell own d len records penalty) (n * suc d)
 
-  pub times-at : (p k : ℕ) → p < n → k ≤ d → getD (timesOf n own d len records penalty) (p * suc d + k) never ≡ timeOf own d len records penalty p k
+  pub times-at : (p k : ℕ) → p < n → k ≤ d → timeIn d (timesOf n own d len records penalty) p k ≡ timeOf own d len records penalty p k
   unfolding timesOf
   times-at p k h l =
       each-below-at (cell own d len records penalty) (n * suc d) (p * suc d + k) never (place-within d p k l n h)
@@ -85,29 +84,18 @@ module _ (n own d len : ℕ) (records : List PeerRecord) (penalty : Float) where
       (time-fits _ _ _ _ _))
 
 -- ---- a shard's length: the least number from 1 on of which d make up the size
--- 0 becomes 1, and any other number stays
-pub raised : (q : ℕ) → q ≡ 0 → 1 ≡ atLeastOne q
-raised q e = rw (eq-eqb q 0 e)
-
-pub unraised : (q : ℕ) → (q ≡ 0 → ⊥) → q ≡ atLeastOne q
-unraised q h = rw (ne-eqb q 0 h)
-
-least-one : (q : ℕ) → (1 ≤ atLeastOne q) × (q ≤ atLeastOne q) × ((m : ℕ) → 1 ≤ m → q ≤ m → atLeastOne q ≤ m)
-least-one zero = (omega arith, omega arith, λ m h g. h)
-least-one (suc q) = rw (sym (unraised (suc q) (suc-ne-zero q))) (omega arith, omega arith, λ m h g. g)
-
 pub shard-length-means : (size d : ℕ) → 0 < d → (1 ≤ shardLength size d) × (size ≤ shardLength size d * d) × ((m : ℕ) → 1 ≤ m → size ≤ m * d → shardLength size d ≤ m)
 unfolding shardLength
 shard-length-means size d h =
     let q = (size + d - 1) / d in
-    let l = least-one q in
     let over : size + d - 1 < q * d + d = lt-div-mul-add h in
-    let more : q * d ≤ atLeastOne q * d = mul-le-mul-right d (l .1) in (
-      l .0,
+    let more : q * d ≤ max 1 q * d = mul-le-mul-right d (omega arith) in (
+      omega arith,
       omega (arith, over, more),
       λ m one enough.
           let room : size + d - 1 < suc m * d = rw (suc-mul m d) (omega arith) in
-          l .2 m one (le-of-suc-le-suc (div-lt-iff-lt-mul h .1 room)),
+          let small : q ≤ m = le-of-suc-le-suc (div-lt-iff-lt-mul h .1 room) in
+          omega arith,
     )
 
 pub shard-length-le : (size d : ℕ) → 0 < d → size ≤ 2 ^ 30 → shardLength size d ≤ 2 ^ 30

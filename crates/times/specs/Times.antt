@@ -2,7 +2,7 @@
 use mathlib.Core.Path.{_≡_}
 use mathlib.Core.Bool.{Bool, false, cond}
 use mathlib.Core.List.{List}
-use Prim.Native.Nat.{ℕ, suc, _+_, _-_, _*_, _/_, _%_, _^_, _≤_, _<_}
+use Prim.Native.Nat.{ℕ, suc, _+_, _-_, _*_, _/_, _%_, _^_, _≤_, _<_, max}
 use lib.Dec.{eqb}
 use lib.IntN.{pos}
 use lib.Ieee.{Float, inf, fin, binary64, add, mul, div, ofInt}
@@ -40,12 +40,9 @@ replyTime (Heard slope delay jitter unreliability) x penalty =
 unfoldable pub timeAt : Bool → PeerRecord → ℕ → ℕ → Float → Float
 timeAt own r k len penalty = cond own plusZero (replyTime (r .peer) (r .inflight + k * len) penalty)
 
--- the larger of 1 and size / d, rounded up
-abbrev pub atLeastOne : ℕ → ℕ
-atLeastOne k = cond (eqb k 0) 1 k
-
+-- max(1, size / d rounded up)
 unfoldable pub shardLength : ℕ → ℕ → ℕ
-shardLength size d = atLeastOne ((size + d - 1) / d)
+shardLength size d = max 1 ((size + d - 1) / d)
 
 -- the record of a replica that a list lacks
 abbrev pub silent : PeerRecord

@@ -9,7 +9,7 @@ use lib.Seq.{take-all}
 use Rattle.lists.specs.Below.{eachBelow}
 use Rattle.lists.proofs.BelowLoops.{each-none, each-done}
 use Rattle.bitmap.specs.Mask.{maskBelow}
-use Rattle.bitmap.specs.WidthLaws.{mask-none}
+use Rattle.bitmap.proofs.MaskLoops.{mask-none}
 use Rattle.assignment.specs.Search.{answers, loadAt, answeredAt, loadsAt}
 use Rattle.assignment.proofs.Parts.{next-silent, next-answers, row-inside}
 use Rattle.assignment.proofs.loads_at.Statement.{statement}

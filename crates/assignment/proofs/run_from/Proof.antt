@@ -8,7 +8,7 @@ use lib.ListN.{length}
 use Rattle.lists.specs.AllLaws.{inside-any}
 use Rattle.lists.proofs.BelowLoops.{Running, run-starts, run-on, run-stop, run-done}
 use Rattle.times.specs.Times.{never}
-use Rattle.assignment.specs.Search.{inTimeFrom}
+use Rattle.assignment.proofs.Parts.{inTimeFrom}
 use Rattle.assignment.proofs.run_from.Statement.{statement}
 use Rattle.assignment.proofs.run_from.Tie as tie
 
