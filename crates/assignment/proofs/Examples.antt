@@ -10,7 +10,7 @@ use Rattle.lists.specs.Sort.{lowerBy, upperBy}
 use Rattle.bitmap.specs.Mask.{count, maskBelow, gather}
 use Rattle.floats.specs.Floats.{isFinite, totalLe}
 use Rattle.refusals.specs.Outcome.{Outcome, refused, accepted}
-use Rattle.refusals.specs.Limits.{isPopulation, isShards, isQuorum, isFaultList}
+use Rattle.refusals.specs.Limits.{peersFit, isPopulation, isShards, isQuorum, isFaultList}
 use Rattle.coverage.specs.Coverage.{unionOf, leaves, isCovered, commits}
 use Rattle.layout.specs.declared.TotalShards.{TotalShards}
 use Rattle.layout.specs.declared.TotalShards.the-variants.{Exactly, AtMost}
@@ -21,7 +21,7 @@ use Rattle.times.specs.Times.{predictOf, settled, replyTime, timeAt, shardLengt
 use Rattle.trimming.specs.Order.{slower, peersOf, trimOrder}
 use Rattle.trimming.specs.Trimming.{keeps, tried, trimmedIn, trimmed}
 use Rattle.assignment.specs.Search.{runAt, answeredAt, loadsAt, commitsAt, firstTime}
-use Rattle.assignment.specs.Plans.{Plan, loadsFor, planOf, peersFit, pickRefusal, pickOf, copiesRefusal, fullCopiesOf, copiesWritten}
+use Rattle.assignment.specs.Plans.{Plan, loadsFor, planOf, pickRefusal, pickOf, copiesRefusal, fullCopiesOf, copiesWritten}
 
 -- ---- floats by their bits
 abbrev one : ℕ

@@ -15,7 +15,7 @@ use borrow.Author.Tests.{eqb-true, eq-eqb, ne-eqb, leb-true, le-leb, ltb-true, l
 use Rattle.lists.specs.All.{AllOf}
 use Rattle.lists.specs.AllLaws.{all-means}
 use Rattle.lists.specs.BelowLaws.{none-below-means}
-use Rattle.bitmap.specs.Mask.{bit, count, run}
+use Rattle.bitmap.specs.Mask.{bit, count, run, rowIn}
 use Rattle.bitmap.specs.MaskLaws.{below-means}
 use Rattle.bitmap.specs.Members.{Many, many-map}
 use Rattle.bitmap.specs.RunLaws.{run-all}
@@ -23,10 +23,10 @@ use Rattle.bitmap.specs.RunCounts.{run-count}
 use Rattle.refusals.specs.Numbers.{TRIMMED}
 use Rattle.refusals.specs.FirstLaws.{none-holds}
 use Rattle.refusals.specs.Limits.{isInFlight, isRow}
-use Rattle.refusals.specs.LimitLaws.{AreRows, population-means, shards-means, quorum-means, fault-list-means}
+use Rattle.refusals.specs.LimitLaws.{AreRows, population-means, shards-means, quorum-means, fault-list-means, peers-fit-means}
 use Rattle.refusals.specs.Outcome.{refused, accepted}
 use Rattle.refusals.specs.OutcomeLaws.{checked-means, accepted-means}
-use Rattle.coverage.specs.Coverage.{rowIn, coversOf}
+use Rattle.coverage.specs.Coverage.{coversOf}
 use Rattle.coverage.specs.CoverageLaws.{Survives, commits-means, covers-means}
 use Rattle.coverage.specs.RefusalLaws.{FaultList, covers-sound}
 use Rattle.floats.specs.FirstLaws.{Fits}
@@ -41,25 +41,9 @@ use Rattle.trimming.specs.Order.{trimOrder}
 use Rattle.trimming.specs.TrimmingLaws.{trimmed-length}
 use Rattle.assignment.specs.Search.{candidates, answeredAt, loadsAt, commitsAt, firstTime}
 use Rattle.assignment.specs.SearchLaws.{Answering, answers-means, answered-below, loads-length, First, first-time-means, no-time-means}
-use Rattle.assignment.specs.Plans.{Plan, loadsFor, planAt, planOf, overfull, peersFit, pickCases, pickRefusal, pickOf, copiesCases, copiesRefusal, copiesWidth, fullCopiesOf, copiesWritten}
+use Rattle.assignment.specs.Plans.{Plan, loadsFor, planAt, planOf, inFlight, pickCases, pickRefusal, pickOf, copiesCases, copiesRefusal, copiesWidth, fullCopiesOf, copiesWritten}
 
 -- ---- what an unrefused input is
-
--- at most 2 ^ 40 bytes are in flight to each peer; our own record is unread
-pub peers-fit-means : (n own : ℕ) (peers : List PeerRecord) → (peersFit n own peers ≡ true) ↔ PeersInBounds n own peers
-unfolding peersFit
-peers-fit-means n own peers =
-    let m = none-below-means (overfull own peers) n in (
-      λ e p l h. leb-true (getD peers p silent .inflight) (2 ^ 40) (within p (m .0 (not-true _ e) p l) h),
-      λ b. ap not (m .1 (λ p l. fits p (ℕ-discrete p own) (b p l))),
-    )
-  where
-    within : (p : ℕ) → overfull own peers p ≡ false → (p ≡ own → ⊥) → isInFlight (getD peers p silent .inflight) ≡ true
-    within p e h = not-false _ (rw (ne-eqb p own h) at e)
-
-    fits : (p : ℕ) → Dec (p ≡ own) → ((p ≡ own → ⊥) → getD peers p silent .inflight ≤ 2 ^ 40) → overfull own peers p ≡ false
-    fits p (yes q) b = rw (eq-eqb p own q)
-    fits p (no q) b = rw (ne-eqb p own q, le-leb (getD peers p silent .inflight) (2 ^ 40) (b q))
 
 -- ---- `pick_assignment`, of a table of so many rows
 module _ (n own quorum d : ℕ) (total : TotalShards) (size : ℕ) (peers : List PeerRecord) (faults : List ℕ) (rows : ℕ) where
@@ -84,7 +68,7 @@ module _ (n own quorum d : ℕ) (total : TotalShards) (size : ℕ) (peers : List
           shards = shards-means d (bound total) .0 (not-false _ (h .1 .1 .0));
           enough = quorum-means n quorum .0 (not-false _ (h .1 .1 .1 .0));
           small = leb-true size (2 ^ 30) (not-false _ (h .1 .1 .1 .1 .0));
-          in-flight = peers-fit-means n own peers .0 (not-false _ (h .1 .1 .1 .1 .1 .0));
+          in-flight = peers-fit-means n own (inFlight peers) .0 (not-false _ (h .1 .1 .1 .1 .1 .0));
           list = fault-list-means n faults .0 (not-false _ (h .1 .1 .1 .1 .1 .1 .0));
           table = eqb-true rows n (not-false _ (h .1 .1 .1 .1 .1 .1 .1 .0));
         },
@@ -95,7 +79,7 @@ module _ (n own quorum d : ℕ) (total : TotalShards) (size : ℕ) (peers : List
           shards-means d (bound total) .1 (s .shards),
           quorum-means n quorum .1 (s .enough),
           le-leb size (2 ^ 30) (s .small),
-          peers-fit-means n own peers .1 (s .in-flight),
+          peers-fit-means n own (inFlight peers) .1 (s .in-flight),
           fault-list-means n faults .1 (s .list),
           eq-eqb rows n (s .table),
         ),

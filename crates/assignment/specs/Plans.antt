@@ -6,12 +6,11 @@ use Prim.Native.Nat.{ℕ}
 use lib.Dec.{eqb}
 use lib.Ieee.{Float}
 use lib.ListN.{length, getD, replicate}
-use Rattle.lists.specs.Below.{someBelow}
 use Rattle.bitmap.specs.Mask.{run}
 use Rattle.refusals.specs.Numbers.{POPULATION, REPLICA, SHARDS, QUORUM, BYTES, TABLE, TRIMMED}
 use Rattle.refusals.specs.First.{Case, unless, firstOf}
 use Rattle.refusals.specs.Outcome.{Outcome, refused, accepted, checked, outcome, written}
-use Rattle.refusals.specs.Limits.{isPopulation, isReplica, isShards, isQuorum, isSize, isInFlight, isFaultList}
+use Rattle.refusals.specs.Limits.{isPopulation, isReplica, isShards, isQuorum, isSize, peersFit, isFaultList}
 use Rattle.layout.specs.declared.TotalShards.{TotalShards}
 use Rattle.layout.specs.declared.TotalShards.the-variants.{Exactly, AtMost}
 use Rattle.layout.specs.Layout.{bound, widthOf, rowsOf, layoutCommits}
@@ -51,15 +50,9 @@ module _ (n own quorum d : ℕ) (total : TotalShards) (faults : List ℕ) (times
 
 -- ---- the entries
 
--- p is a peer, and too many bytes are in flight to it
-abbrev pub isOverfull : ℕ → ℕ → PeerRecord → Bool
-isOverfull own p told = not (eqb p own) && not (isInFlight (told .inflight))
-
-abbrev pub overfull : ℕ → List PeerRecord → ℕ → Bool
-overfull own peers p = isOverfull own p (getD peers p silent)
-
-unfoldable pub peersFit : ℕ → ℕ → List PeerRecord → Bool
-peersFit n own peers = not (someBelow (overfull own peers) n)
+-- the bytes in flight to each replica
+abbrev pub inFlight : List PeerRecord → ℕ → ℕ
+inFlight peers p = getD peers p silent .inflight
 
 abbrev pub pickCases : ℕ → ℕ → ℕ → ℕ → TotalShards → ℕ → List PeerRecord → List ℕ → ℕ → List Case
 pickCases n own quorum d total size peers faults rows =
@@ -68,7 +61,7 @@ pickCases n own quorum d total size peers faults rows =
     ∷ unless (isShards d (bound total)) SHARDS
     ∷ unless (isQuorum n quorum) QUORUM
     ∷ unless (isSize size) BYTES
-    ∷ unless (peersFit n own peers) BYTES
+    ∷ unless (peersFit n own (inFlight peers)) BYTES
     ∷ unless (isFaultList n faults) TABLE
     ∷ unless (eqb rows n) TABLE
     ∷ []

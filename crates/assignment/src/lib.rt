@@ -4,14 +4,15 @@ ghost use mathlib.Core.Bool.{cond, _&&_};
 ghost use mathlib.Core.Option.{some};
 ghost use Prim.Native.Nat.{ℕ, suc, _+_, _*_, _<_, _≤_};
 ghost use lib.Ieee.{le};
-ghost use lib.ListN.{length, getD, replicate};
+ghost use lib.ListN.{length, getD};
 ghost use Rattle.lists.specs.Below.{runOf};
 ghost use Rattle.lists.specs.First.{betterBy};
 ghost use Rattle.floats.specs.Floats.{isFinite, totalLe, found};
+ghost use Rattle.refusals.specs.Limits.{peersFit};
 ghost use Rattle.layout.specs.Layout.{Fit, bound, laid};
 ghost use Rattle.times.specs.Times.{never};
 ghost use Rattle.assignment.specs.Search.{runAt, answeredAt, loadsAt, commitsAt, firstTime};
-ghost use Rattle.assignment.specs.Plans.{loadsFor, laidOut, planAt, planOf, isOverfull, peersFit, pickRefusal, picked, pickOf, planned, copiesRefusal, copiesWidth, fullCopiesOf, copiesWritten};
+ghost use Rattle.assignment.specs.Plans.{loadsFor, laidOut, planAt, planOf, inFlight, pickRefusal, picked, pickOf, planned, copiesRefusal, copiesWidth, fullCopiesOf, copiesWritten};
 use bitmap::ReplicaId;
 use floats::Found;
 use layout::Laid;
@@ -72,7 +73,7 @@ pub fn full_copies(n: usize, d: usize, total: TotalShards, rows: &mut [u64]) -> 
     if no != 0 {
         return Laid::Refused(no);
     }
-    copy_to_all(bitmap::run(0, d), rows);
+    bitmap::fill(bitmap::run(0, d), rows);
     Laid::Width(copies_width(d, total))
 }
 
@@ -119,28 +120,18 @@ fn pick_refusal(
 // Whether the bytes in flight to each peer are within bounds. A part: the population has been tested.
 fn peers_fit(n: usize, own: ReplicaId, peers: [PeerRecord; 16]) -> bool
     requires { ⌜ n ≤ 16 ⌝ }
-    ensures { λ r. ⌜ r ≡ peersFit n (own .0) peers ⌝ }
+    ensures { λ r. ⌜ r ≡ peersFit n (own .0) (inFlight peers) ⌝ }
 {
     let mut p = 0;
     while p < n {
         let told = peers[p];
-        if is_overfull(own, ReplicaId(p), told) {
+        if refusals::is_overfull(own, ReplicaId(p), told.inflight) {
             return false;
         } else {
             p += 1;
         }
     }
     true
-}
-
-// Whether it is a peer's record, and too many bytes are in flight to it.
-fn is_overfull(own: ReplicaId, p: ReplicaId, told: PeerRecord) -> bool
-    ensures { λ r. ⌜ r ≡ isOverfull (own .0) (p .0) told ⌝ }
-{
-    if p.0 == own.0 {
-        return false;
-    }
-    !refusals::is_in_flight(told.inflight)
 }
 
 fn copies_refusal(n: usize, d: usize, total: TotalShards, rows: usize) -> u8
@@ -164,16 +155,6 @@ fn copies_width(d: usize, total: TotalShards) -> usize
     match total {
         TotalShards::Exactly(w) => w,
         TotalShards::AtMost(_) => d,
-    }
-}
-
-fn copy_to_all(row: u64, rows: &mut [u64])
-    ensures { λ _. ⌜ now (rows .exit) ≡ replicate (length (now (rows .entry))) row ⌝ }
-{
-    let mut s = 0;
-    while s < rows.len() {
-        rows[s] = row;
-        s += 1;
     }
 }
 

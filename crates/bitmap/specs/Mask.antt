@@ -2,8 +2,10 @@
 -- Assumes nothing.
 use Prim.Native.Nat.{ℕ, zero, suc, _+_, _-_, _/_, _%_, _^_}
 use mathlib.Core.Bool.{Bool, cond}
+use mathlib.Core.List.{List}
 use lib.Dec.{eqb, ltb}
 use lib.Bits.{bitOr}
+use lib.ListN.{getD}
 
 -- bit s of m, 0 or 1
 abbrev pub bit : ℕ → ℕ → ℕ
@@ -52,3 +54,7 @@ run a k = gather (λ (i : ℕ). a + i) k
 -- k members from a on, each modulo w
 abbrev pub runModulo : ℕ → ℕ → ℕ → ℕ
 runModulo w a k = gather (λ (i : ℕ). (a + i) % w) k
+
+-- the row of the replica s in a lent table of one word a replica
+abbrev pub rowIn : List ℕ → ℕ → ℕ
+rowIn rows s = getD rows s 0

@@ -2,6 +2,7 @@
 ghost use mathlib.Core.Path.{_≡_};
 ghost use Prim.Native.Nat.{_+_, _<_, _≤_};
 ghost use lib.Bits.{bitOr};
+ghost use lib.ListN.{length, replicate};
 ghost use Rattle.bitmap.specs.Mask.{hasBit, withBit, isBelow, count, run, runModulo};
 
 // The number of a replica. It is wide, so that a number out of range is refused and not cut.
@@ -85,6 +86,17 @@ pub fn run_modulo(a: usize, k: usize, w: usize) -> u64
         return run(from, k);
     }
     run(from, w - from) | run(0, from + k - w)
+}
+
+// Makes each word of the table the same row.
+pub fn fill(row: u64, rows: &mut [u64])
+    ensures { λ _. ⌜ now (rows .exit) ≡ replicate (length (now (rows .entry))) row ⌝ }
+{
+    let mut s = 0;
+    while s < rows.len() {
+        rows[s] = row;
+        s += 1;
+    }
 }
 
 fn bit_at(m: u64, s: usize) -> bool

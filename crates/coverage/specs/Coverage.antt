@@ -4,9 +4,9 @@ use mathlib.Core.List.{List, [], _∷_}
 use Prim.Native.Nat.{ℕ, zero, suc}
 use lib.Bits.{bitOr}
 use lib.Dec.{leb, eqb}
-use lib.ListN.{length, getD}
+use lib.ListN.{length}
 use Rattle.lists.specs.All.{all, any}
-use Rattle.bitmap.specs.Mask.{hasBit, allBelow, count}
+use Rattle.bitmap.specs.Mask.{hasBit, allBelow, count, rowIn}
 use Rattle.refusals.specs.Numbers.{POPULATION, SHARDS, MASK, TABLE}
 use Rattle.refusals.specs.First.{Case, unless, firstOf}
 use Rattle.refusals.specs.Outcome.{Outcome, refused, accepted, outcome}
@@ -17,10 +17,6 @@ use Rattle.coverage.specs.declared.Survival.{Survival}
 use Rattle.coverage.specs.declared.Survival.the-variants as Surviving
 
 -- ---- coverage
-
--- the rows of a lent table of one word a replica
-abbrev pub rowIn : List ℕ → ℕ → ℕ
-rowIn rows s = getD rows s 0
 
 -- the row of s where s is heard and not in the set `fault`; else no shard
 abbrev pub shareOf : (ℕ → ℕ) → ℕ → ℕ → ℕ → ℕ

@@ -15,13 +15,13 @@ use lib.ListN.{length, getD}
 use borrow.Author.Tests.{eqb-true, eqb-false, eq-eqb, ne-eqb, leb-true, le-leb, ltb-true, not-true}
 use Rattle.lists.specs.All.{all}
 use Rattle.lists.specs.AllLaws.{all-means, any-means}
-use Rattle.bitmap.specs.Mask.{bit, hasBit, allBelow, count}
+use Rattle.bitmap.specs.Mask.{bit, hasBit, allBelow, count, rowIn}
 use Rattle.bitmap.specs.MaskLaws.{Within, bit-lt, bit-none, bit-or, same-bits, full, full-bit}
 use Rattle.bitmap.specs.Members.{Many, count-means, many-map}
 use Rattle.refusals.specs.Limits.{isMask}
 use Rattle.refusals.specs.OutcomeLaws.{accepted-means}
 use Rattle.refusals.specs.Outcome.{accepted}
-use Rattle.coverage.specs.Coverage.{rowIn, shareOf, unionOf, leaves, isCovered, commits, coversRefusal, coversOf, spares, isSurvived, survivedRefusal, survivedOf}
+use Rattle.coverage.specs.Coverage.{shareOf, unionOf, leaves, isCovered, commits, coversRefusal, coversOf, spares, isSurvived, survivedRefusal, survivedOf}
 use Rattle.coverage.specs.RefusalLaws.{survived-fit}
 
 -- ---- which shards are left

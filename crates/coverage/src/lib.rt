@@ -3,7 +3,8 @@ ghost use mathlib.Core.Path.{_≡_};
 ghost use Prim.Native.Nat.{_≤_, _<_};
 ghost use lib.ListN.{length};
 ghost use Rattle.lists.specs.All.{all, any};
-ghost use Rattle.coverage.specs.Coverage.{rowIn, shareOf, unionOf, leaves, isCovered, commits, coversRefusal, coverage, coversOf, completes, isSurvived, survivedRefusal, survival, survivedOf};
+ghost use Rattle.bitmap.specs.Mask.{rowIn};
+ghost use Rattle.coverage.specs.Coverage.{shareOf, unionOf, leaves, isCovered, commits, coversRefusal, coverage, coversOf, completes, isSurvived, survivedRefusal, survival, survivedOf};
 use bitmap::ReplicaId;
 
 pub enum Coverage {

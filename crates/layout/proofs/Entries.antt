@@ -12,7 +12,8 @@ use Rattle.refusals.specs.Limits.{isShards}
 use Rattle.refusals.specs.Outcome.{accepted}
 use Rattle.refusals.proofs.Checks.{checks, call-passes, call-fails}
 use Rattle.refusals.proofs.Outcomes.{is-accepted}
-use Rattle.coverage.specs.Coverage.{rowIn, commits}
+use Rattle.bitmap.specs.Mask.{rowIn}
+use Rattle.coverage.specs.Coverage.{commits}
 use Rattle.layout.specs.declared.TotalShards.{TotalShards}
 use Rattle.layout.specs.Layout.{widthOf, rowsOf, heardLoads, layoutCommits, rowsRefusal, rowsWritten, commitsRefusal, layoutCommitsOf, trialWritten}
 use Rattle.layout.specs.LayoutLaws.{rows-length, heard-length}

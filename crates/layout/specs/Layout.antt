@@ -5,12 +5,12 @@ use Prim.Native.Nat.{ℕ, _+_, _≤_, min, max}
 use lib.Dec.{ltb, eqb}
 use lib.ListN.{length, getD, take}
 use Rattle.lists.specs.Below.{eachBelow}
-use Rattle.bitmap.specs.Mask.{hasBit, run, runModulo}
+use Rattle.bitmap.specs.Mask.{hasBit, run, runModulo, rowIn}
 use Rattle.refusals.specs.Numbers.{POPULATION, SHARDS, QUORUM, MASK, TABLE}
 use Rattle.refusals.specs.First.{Case, unless, firstOf}
 use Rattle.refusals.specs.Outcome.{Outcome, refused, accepted, outcome, written}
 use Rattle.refusals.specs.Limits.{isPopulation, isShards, isQuorum, isMask, isFaultList}
-use Rattle.coverage.specs.Coverage.{rowIn, commits}
+use Rattle.coverage.specs.Coverage.{commits}
 use Rattle.layout.specs.declared.TotalShards.{TotalShards}
 use Rattle.layout.specs.declared.TotalShards.the-variants.{Exactly, AtMost}
 use Rattle.layout.specs.declared.Laid.{Laid}

@@ -15,7 +15,7 @@ use lib.Seq.{take-suc, take-length}
 use borrow.Author.Tests.{ltb-true, ltb-false, lt-ltb}
 use Rattle.lists.specs.All.{all}
 use Rattle.lists.specs.BelowLaws.{each-below-length, each-below-at, each-below-all}
-use Rattle.bitmap.specs.Mask.{bit, count, run, runModulo}
+use Rattle.bitmap.specs.Mask.{bit, count, run, runModulo, rowIn}
 use Rattle.bitmap.specs.Members.{Many}
 use Rattle.bitmap.specs.RunLaws.{run-all, gather-means}
 use Rattle.bitmap.specs.WidthLaws.{run-below}
@@ -23,7 +23,6 @@ use Rattle.bitmap.specs.RunCounts.{run-count, run-modulo-count}
 use Rattle.refusals.specs.Outcome.{accepted}
 use Rattle.refusals.specs.OutcomeLaws.{accepted-means}
 use Rattle.refusals.specs.Limits.{isRow}
-use Rattle.coverage.specs.Coverage.{rowIn}
 use Rattle.coverage.specs.CoverageLaws.{Survives, commits-means}
 use Rattle.layout.specs.declared.TotalShards.{TotalShards}
 use Rattle.layout.specs.declared.TotalShards.the-variants.{Exactly, AtMost}

@@ -1,6 +1,6 @@
 -- Tests and statements over a whole list. Assumes nothing.
 use mathlib.Core.Path.{_≡_}
-use mathlib.Core.Bool.{Bool, true, false, _&&_, _||_}
+use mathlib.Core.Bool.{Bool, true, false, cond, _&&_, _||_}
 use mathlib.Core.List.{List, [], _∷_}
 
 module _ {A : Type 0} where
@@ -13,6 +13,11 @@ module _ {A : Type 0} where
   abbrev pub any : (A → Bool) → List A → Bool
   any p [] = false
   any p (x ∷ xs) = p x || any p xs
+
+  -- the elements that pass the test, in their order
+  abbrev pub passing : (A → Bool) → List A → List A
+  passing p [] = []
+  passing p (x ∷ xs) = cond (p x) (x ∷ passing p xs) (passing p xs)
 
   -- F holds of each element
   abbrev pub AllOf : (A → Type 0) → List A → Type 0

@@ -1,19 +1,20 @@
 -- What each range check says: the facts that a passed check gives. Assumes nothing.
 use mathlib.Core.Path.{_≡_, ap, _∙_}
 use mathlib.Core.Logic.{_↔_}
-use mathlib.Core.Bool.{Bool, true, not, _&&_, and-eq-true-iff}
+use mathlib.Core.Bool.{Bool, true, false, not, _&&_, and-eq-true-iff}
 use mathlib.Core.List.{List}
 use Prim.Native.Nat.{ℕ, _-_, _^_, _≤_, _<_}
-use native.Mathlib.Decide.{decLt}
+use native.Mathlib.Decide.{decLt, ℕ-discrete}
 use native.Mathlib.Omega.{arith}
 use lib.Dec.{leb, eqb}
 use lib.ListN.{length}
-use borrow.Author.Tests.{leb-true, le-leb, ltb-true, lt-ltb, le-ltb, eqb-false, eq-eqb, ne-eqb, not-true}
+use borrow.Author.Tests.{leb-true, le-leb, ltb-true, lt-ltb, le-ltb, eqb-false, eq-eqb, ne-eqb, not-true, not-false}
 use Rattle.lists.specs.All.{all}
 use Rattle.lists.specs.AllLaws.{Each, all-means}
+use Rattle.lists.specs.BelowLaws.{none-below-means}
 use Rattle.bitmap.specs.Mask.{bit, allBelow}
 use Rattle.bitmap.specs.MaskLaws.{below-means, full-bit, full}
-use Rattle.refusals.specs.Limits.{isPopulation, isShards, isQuorum, isMask, isRow, isFaultSet, isFaultList, isUnder}
+use Rattle.refusals.specs.Limits.{isPopulation, isShards, isQuorum, isInFlight, isOverfull, peersFit, isMask, isRow, isFaultSet, isFaultList, isUnder}
 
 -- a bound and what else is tested
 bound : (a b : ℕ) (t : Bool) → ((leb a b && t) ≡ true) ↔ ((a ≤ b) × (t ≡ true))
@@ -46,6 +47,25 @@ shards-means d w = (
       (p .0, q .0, q .1),
   λ h. bound 1 d (leb d w && leb w 64) .1 (h .0, between d w w 64 .1 (h .1, h .2)),
 )
+
+-- at most 2 ^ 40 bytes are in flight to each peer
+abbrev pub InFlight : ℕ → ℕ → (ℕ → ℕ) → Type 0
+InFlight n own bytes = (p : ℕ) → p < n → (p ≡ own → ⊥) → bytes p ≤ 2 ^ 40
+
+pub peers-fit-means : (n own : ℕ) (bytes : ℕ → ℕ) → (peersFit n own bytes ≡ true) ↔ InFlight n own bytes
+unfolding peersFit
+peers-fit-means n own bytes =
+    let m = none-below-means (λ (p : ℕ). isOverfull own p (bytes p)) n in (
+      λ e p l h. leb-true (bytes p) (2 ^ 40) (within p (m .0 (not-true _ e) p l) h),
+      λ b. ap not (m .1 (λ p l. fits p (ℕ-discrete p own) (b p l))),
+    )
+  where
+    within : (p : ℕ) → isOverfull own p (bytes p) ≡ false → (p ≡ own → ⊥) → isInFlight (bytes p) ≡ true
+    within p e h = not-false _ (rw (ne-eqb p own h) at e)
+
+    fits : (p : ℕ) → Dec (p ≡ own) → ((p ≡ own → ⊥) → bytes p ≤ 2 ^ 40) → isOverfull own p (bytes p) ≡ false
+    fits p (yes q) b = rw (eq-eqb p own q)
+    fits p (no q) b = rw (ne-eqb p own q, le-leb (bytes p) (2 ^ 40) (b q))
 
 -- a fault set names no replica at or above n, and not all n
 pub fault-set-means : (n f : ℕ)

@@ -5,6 +5,7 @@ use mathlib.Core.List.{List}
 use lib.Dec.{leb, ltb, eqb}
 use lib.ListN.{length}
 use Rattle.lists.specs.All.{all}
+use Rattle.lists.specs.Below.{someBelow}
 use Rattle.bitmap.specs.Mask.{isBelow, allBelow}
 
 -- population: 1 to 16
@@ -34,6 +35,14 @@ isSize bytes = leb bytes (2 ^ 30)
 -- bytes in flight to a peer: at most 2 ^ 40
 abbrev pub isInFlight : ℕ → Bool
 isInFlight bytes = leb bytes (2 ^ 40)
+
+-- p is a peer, and too many bytes are in flight to it; to our own number they are unread
+abbrev pub isOverfull : ℕ → ℕ → ℕ → Bool
+isOverfull own p bytes = not (eqb p own) && not (isInFlight bytes)
+
+-- that is so of none of n replicas, of the bytes in flight to each
+unfoldable pub peersFit : ℕ → ℕ → (ℕ → ℕ) → Bool
+peersFit n own bytes = not (someBelow (λ (p : ℕ). isOverfull own p (bytes p)) n)
 
 -- a mask with no replica at or above n
 abbrev pub isMask : ℕ → ℕ → Bool

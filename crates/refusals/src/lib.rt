@@ -3,7 +3,7 @@ ghost use mathlib.Core.Path.{_≡_};
 ghost use Prim.Native.Nat.{_≤_};
 ghost use Rattle.lists.specs.All.{all};
 ghost use Rattle.bitmap.specs.Mask.{isBelow};
-ghost use Rattle.refusals.specs.Limits.{isPopulation, isTolerance, isReplica, isShards, isQuorum, isSize, isInFlight, isMask, isRow, isUnder, isFaultList};
+ghost use Rattle.refusals.specs.Limits.{isPopulation, isTolerance, isReplica, isShards, isQuorum, isSize, isInFlight, isOverfull, isMask, isRow, isUnder, isFaultList};
 use bitmap::ReplicaId;
 
 // The population.
@@ -128,6 +128,16 @@ pub fn is_in_flight(bytes: u64) -> bool
     ensures { λ r. ⌜ r ≡ isInFlight bytes ⌝ }
 {
     bytes <= 0x100_0000_0000
+}
+
+// Whether p is a peer, and too many bytes are in flight to it.
+pub fn is_overfull(own: ReplicaId, p: ReplicaId, bytes: u64) -> bool
+    ensures { λ r. ⌜ r ≡ isOverfull (own .0) (p .0) bytes ⌝ }
+{
+    if p.0 == own.0 {
+        return false;
+    }
+    !is_in_flight(bytes)
 }
 
 // A mask of some of n replicas.

@@ -16,12 +16,12 @@ use lib.Seq.{getD-set-same, getD-set-other}
 use borrow.Author.Tests.{lt-ltb, eq-eqb, ne-eqb, eqb-false}
 use Rattle.lists.specs.All.{all, AllOf}
 use Rattle.lists.specs.AllLaws.{all-of-means, all-of-map}
-use Rattle.bitmap.specs.Mask.{bit, hasBit, withBit}
+use Rattle.bitmap.specs.Mask.{bit, hasBit, withBit, rowIn}
 use Rattle.bitmap.specs.MaskLaws.{bit-none, or-means, with-means}
 use Rattle.bitmap.specs.Members.{many-map}
 use Rattle.refusals.specs.Limits.{isRow}
 use Rattle.refusals.specs.Outcome.{outcome, written}
-use Rattle.coverage.specs.Coverage.{rowIn, commits}
+use Rattle.coverage.specs.Coverage.{commits}
 use Rattle.coverage.specs.CoverageLaws.{Held, commits-means}
 use Rattle.tally.specs.declared.Tally.{Tally}
 use Rattle.tally.specs.Tally.{Reply, waiting, committed, alreadyCommitted, openRefusal, fresh, isSameValue, replyRefusal, rowWith}

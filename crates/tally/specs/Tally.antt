@@ -6,12 +6,12 @@ use lib.Bits.{bitOr}
 use lib.Dec.{eqb}
 use lib.ListN.{set, take, replicate}
 use Rattle.lists.specs.All.{all}
-use Rattle.bitmap.specs.Mask.{hasBit, withBit}
+use Rattle.bitmap.specs.Mask.{hasBit, withBit, rowIn}
 use Rattle.refusals.specs.Numbers.{POPULATION, REPLICA, SHARDS, QUORUM, MASK, TABLE, OTHER_VALUE}
 use Rattle.refusals.specs.First.{Case, unless, firstOf}
 use Rattle.refusals.specs.Outcome.{Outcome, refused, accepted, outcome, written}
 use Rattle.refusals.specs.Limits.{isPopulation, isReplica, isShards, isQuorum, isMask, isRow, isFaultList}
-use Rattle.coverage.specs.Coverage.{rowIn, commits}
+use Rattle.coverage.specs.Coverage.{commits}
 use Rattle.tally.specs.declared.Tally.{Tally}
 use Rattle.tally.specs.declared.Opening.{Opening}
 use Rattle.tally.specs.declared.Answer.{Answer}

@@ -1,15 +1,21 @@
 -- `assignment::peers_fit` meets its contract. Assumes nothing.
 use mathlib.Core.Path.{_≡_, sym, ap}
-use mathlib.Core.Bool.{false, not}
-use Prim.Native.Nat.{_-_, _≤_}
+use mathlib.Core.Bool.{Bool, false, not}
+use mathlib.Core.List.{List}
+use Prim.Native.Nat.{ℕ, _-_, _≤_}
 use native.Mathlib.Omega.{arith}
 use borrow.Author.Needs.{needs}
 use lib.ListN.{length}
 use Rattle.lists.specs.Below.{someBelow}
 use Rattle.lists.proofs.BelowLoops.{some-none, some-miss, some-hit, some-spent}
-use Rattle.assignment.specs.Plans.{overfull, peersFit}
+use Rattle.refusals.specs.Limits.{isOverfull, peersFit}
+use Rattle.times.specs.declared.PeerRecord.{PeerRecord}
+use Rattle.assignment.specs.Plans.{inFlight}
 use Rattle.assignment.proofs.peers_fit.Statement.{statement}
 use Rattle.assignment.proofs.peers_fit.Tie as tie
+
+abbrev overfull : ℕ → List PeerRecord → ℕ → Bool
+overfull own peers p = isOverfull own p (inFlight peers p)
 
 abbrev Inv-loop : tie.InvT-loop
 Inv-loop n own peers p₀ p = (p ≤ n) × (length peers ≡ 16) × (someBelow (overfull (own .0) peers) p ≡ false)

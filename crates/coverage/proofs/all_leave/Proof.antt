@@ -4,7 +4,8 @@ use Prim.Native.Nat.{_≤_, _-_}
 use borrow.Author.Needs.{needs}
 use lib.ListN.{length}
 use Rattle.lists.proofs.Loops.{Passed, pass, fail, done}
-use Rattle.coverage.specs.Coverage.{rowIn, leaves}
+use Rattle.bitmap.specs.Mask.{rowIn}
+use Rattle.coverage.specs.Coverage.{leaves}
 use Rattle.coverage.proofs.all_leave.Statement.{statement}
 use Rattle.coverage.proofs.all_leave.Tie as tie
 

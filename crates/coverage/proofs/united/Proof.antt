@@ -2,7 +2,8 @@
 use mathlib.Core.Path.{_≡_}
 use Prim.Native.Nat.{_≤_, _-_}
 use borrow.Author.Needs.{needs}
-use Rattle.coverage.specs.Coverage.{rowIn, unionOf}
+use Rattle.bitmap.specs.Mask.{rowIn}
+use Rattle.coverage.specs.Coverage.{unionOf}
 use Rattle.coverage.proofs.Parts.{unions}
 use Rattle.coverage.proofs.united.Statement.{statement}
 use Rattle.coverage.proofs.united.Tie as tie

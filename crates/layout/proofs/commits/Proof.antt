@@ -6,7 +6,8 @@ use native.Mathlib.Omega.{arith}
 use borrow.Author.Needs.{needs}
 use lib.ListN.{replicate}
 use Rattle.lists.proofs.Lent.{lent, back, back-room, back-lent, back-enough}
-use Rattle.coverage.specs.Coverage.{rowIn, commits}
+use Rattle.bitmap.specs.Mask.{rowIn}
+use Rattle.coverage.specs.Coverage.{commits}
 use Rattle.layout.specs.Layout.{layoutCommits}
 use Rattle.layout.proofs.Entries.{whole}
 use Rattle.layout.proofs.commits.Statement.{statement}

@@ -1,4 +1,4 @@
--- `assignment::copy_to_all` meets its contract. Assumes nothing.
+-- `bitmap::fill` meets its contract. Assumes nothing.
 use mathlib.Core.Path.{_≡_, refl, sym, _∙_}
 use Prim.Native.Nat.{_-_, _≤_}
 use native.Mathlib.Numerals.{add-one}
@@ -6,8 +6,8 @@ use native.Mathlib.Omega.{arith}
 use borrow.Author.Needs.{needs}
 use lib.ListN.{length, take, replicate, length-set, replicate-append-replicate}
 use lib.Seq.{take-suc-set, take-all}
-use Rattle.assignment.proofs.copy_to_all.Statement.{statement}
-use Rattle.assignment.proofs.copy_to_all.Tie as tie
+use Rattle.bitmap.proofs.fill.Statement.{statement}
+use Rattle.bitmap.proofs.fill.Tie as tie
 
 abbrev Inv-loop : tie.InvT-loop
 Inv-loop row rows₀ s₀ rows s = (s ≤ length rows₀) × (length rows ≡ length rows₀) × (take s rows ≡ replicate s row)
@@ -15,8 +15,8 @@ Inv-loop row rows₀ s₀ rows s = (s ≤ length rows₀) × (length rows ≡ le
 abbrev μ-loop : tie.MeasureT-loop
 μ-loop row rows₀ s₀ rows s = length rows₀ - s
 
-pub copy-to-all-spec : {M : Type 1} → statement M
-copy-to-all-spec =
+pub fill-spec : {M : Type 1} → statement M
+fill-spec =
     tie.close
     (tie.spec
     Inv-loop

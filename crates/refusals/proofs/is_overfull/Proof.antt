@@ -1,10 +1,10 @@
--- `assignment::is_overfull` meets its contract. Assumes nothing.
+-- `refusals::is_overfull` meets its contract. Assumes nothing.
 use mathlib.Core.Path.{ap}
 use mathlib.Core.Bool.{not}
 use borrow.Author.Needs.{needs}
 use borrow.Author.Tests.{eq-eqb, ne-eqb}
-use Rattle.assignment.proofs.is_overfull.Statement.{statement}
-use Rattle.assignment.proofs.is_overfull.Tie as tie
+use Rattle.refusals.proofs.is_overfull.Statement.{statement}
+use Rattle.refusals.proofs.is_overfull.Tie as tie
 
 pub is-overfull-spec : {M : Type 1} → statement M
 is-overfull-spec =

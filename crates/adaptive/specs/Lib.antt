@@ -1,0 +1,4 @@
+-- The balanced policy.
+pub mod Floor
+pub mod Steps
+pub mod Policy

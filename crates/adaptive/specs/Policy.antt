@@ -1,0 +1,90 @@
+-- The balanced policy (`pick_assignment_policy`): the choice, and the rows that it stands for. Assumes nothing.
+use mathlib.Core.Path.{_≡_}
+use mathlib.Core.Bool.{Bool, not, cond, _&&_, _||_}
+use mathlib.Core.List.{List, [], _∷_}
+use mathlib.Core.Option.{Option, none, some}
+use Prim.Native.Nat.{ℕ, suc, _+_, _-_, _*_, _/_, _%_, _≤_, _<_, max}
+use lib.Dec.{leb, eqb}
+use lib.ListN.{length, take, drop}
+use Rattle.lists.specs.All.{all}
+use Rattle.bitmap.specs.Mask.{count, rowIn}
+use Rattle.refusals.specs.Numbers.{POPULATION, TOLERANCE, REPLICA, SHARDS, QUORUM, MULTIPLE, BYTES, MASK, TABLE}
+use Rattle.refusals.specs.First.{Case, unless, firstOf}
+use Rattle.refusals.specs.Outcome.{Outcome, refused, accepted, outcome}
+use Rattle.refusals.specs.Limits.{isPopulation, isTolerance, isReplica, isShards, isQuorum, isSize, peersFit, isMask, isRow}
+use Rattle.times.specs.declared.PerfModel.{PerfModel}
+use Rattle.adaptive.specs.declared.Policy.{Policy}
+use Rattle.adaptive.specs.declared.Policy.the-variants.{Refused, Initial, Balanced}
+use Rattle.adaptive.specs.Floor.{floorOf}
+use Rattle.adaptive.specs.Steps.{inFlight, stepShards, bestStep}
+
+-- ---- the balanced table: n rows for each whole count, rising, from d / majority to d, or it is empty
+
+-- it may have that many rows
+abbrev pub isTable : ℕ → ℕ → ℕ → ℕ → Bool
+isTable n d majority len = eqb len 0 || eqb len (n * suc (d - d / majority))
+
+-- one of that many rows has the count
+abbrev pub hasCount : ℕ → ℕ → ℕ → ℕ → Bool
+hasCount d majority len shards = not (eqb len 0) && (leb (d / majority) shards && leb shards d)
+
+-- the rows of the count
+abbrev pub rowsFor : ℕ → ℕ → ℕ → ℕ → List ℕ → List ℕ
+rowsFor n d majority shards table = take n (drop ((shards - d / majority) * n) table)
+
+-- ---- what refuses
+
+abbrev pub policyCases : ℕ → ℕ → ℕ → ℕ → ℕ → ℕ → ℕ → List ℕ → ℕ → List ℕ → List ℕ → List Case
+policyCases n f own d w majority size inflight alive initial table =
+    unless (isPopulation n) POPULATION
+    ∷ unless (isTolerance n f) TOLERANCE
+    ∷ unless (isReplica n own) REPLICA
+    ∷ unless (isShards d w) SHARDS
+    ∷ unless (isQuorum n majority) QUORUM
+    ∷ unless (eqb (d % majority) 0) MULTIPLE
+    ∷ unless (isSize size) BYTES
+    ∷ unless (peersFit n own (inFlight inflight)) BYTES
+    ∷ unless (isMask n alive) MASK
+    ∷ unless (all (isRow w) initial) MASK
+    ∷ unless (all (isRow w) table) MASK
+    ∷ unless (eqb (length initial) n) TABLE
+    ∷ unless (isTable n d majority (length table)) TABLE
+    ∷ []
+
+unfoldable pub policyRefusal : ℕ → ℕ → ℕ → ℕ → ℕ → ℕ → ℕ → List ℕ → ℕ → List ℕ → List ℕ → ℕ
+policyRefusal n f own d w majority size inflight alive initial table = firstOf (policyCases n f own d w majority size inflight alive initial table)
+
+-- ---- the choice
+
+-- that of the first least step; not adaptive, the count of row 0 of the initial layout
+unfoldable pub bestShards : ℕ → ℕ → ℕ → ℕ → ℕ → ℕ → List ℕ → List PerfModel → List ℕ → Bool → ℕ
+bestShards n f own d majority size inflight models initial adaptive =
+    cond adaptive (stepShards d majority (bestStep n f own d majority size inflight models)) (count (rowIn initial 0))
+
+-- the initial layout (none), or a count of the table
+abbrev pub choiceOf : ℕ → ℕ → ℕ → ℕ → Option ℕ
+choiceOf d majority len shards = cond (hasCount d majority len shards) (some shards) none
+
+-- what an answer is: the number that refuses, or the choice
+abbrev pub chosen : Policy → Outcome (Option ℕ)
+chosen (Refused k) = refused k
+chosen Initial = accepted none
+chosen (Balanced shards) = accepted (some shards)
+
+-- unbalanced gives the initial layout; else the larger of choice and floor picks the rows, and a count that the table lacks gives the initial layout
+unfoldable pub policyOf : ℕ → ℕ → ℕ → ℕ → ℕ → ℕ → ℕ → List ℕ → List PerfModel → ℕ → List ℕ → List ℕ → Bool → Bool → Outcome (Option ℕ)
+policyOf n f own d w majority size inflight models alive initial table adaptive balanced =
+    outcome (policyRefusal n f own d w majority size inflight alive initial table)
+    (cond balanced (choiceOf d majority (length table) (max (bestShards n f own d majority size inflight models initial adaptive) (floorOf f d majority (count alive)))) none)
+
+-- ---- the rows of a choice: no rows where the input is refused, the initial layout, or a part of the table
+abbrev pub rowsOf : ℕ → ℕ → ℕ → Outcome (Option ℕ) → List ℕ → List ℕ → List ℕ
+rowsOf n d majority (refused k) initial table = []
+rowsOf n d majority (accepted none) initial table = initial
+rowsOf n d majority (accepted (some shards)) initial table = rowsFor n d majority shards table
+
+-- a table of that many rows has those of the choice
+abbrev pub Holds : ℕ → ℕ → ℕ → Outcome (Option ℕ) → ℕ → Type 0
+Holds n d majority (refused k) len = Unit
+Holds n d majority (accepted none) len = Unit
+Holds n d majority (accepted (some shards)) len = (n ≤ 16) × (d ≤ 64) × (0 < majority) × (d / majority ≤ shards) × (shards ≤ d) × (len ≡ n * suc (d - d / majority))

@@ -1,0 +1,440 @@
+// The balanced policy: the fewest shards a replica may hold under the peers now alive (min_shards_per_replica), and the assignment that the models favour
+// (pick_assignment_policy), as a choice and as the rows that it stands for.
+ghost use mathlib.Core.Path.{_≡_};
+ghost use mathlib.Core.Bool.{not};
+ghost use Prim.Native.Nat.{_+_, _/_, _≤_, _<_, _^_, max};
+ghost use lib.Dec.{eqb};
+ghost use lib.ListN.{length, getD};
+ghost use Rattle.bitmap.specs.Mask.{count};
+ghost use Rattle.refusals.specs.Limits.{peersFit};
+ghost use Rattle.refusals.specs.LimitLaws.{InFlight};
+ghost use Rattle.times.specs.Times.{never};
+ghost use Rattle.adaptive.specs.Floor.{floorOf, floorRefusal, floored, minShardsOf};
+ghost use Rattle.adaptive.specs.Steps.{inFlight, peerAt, peerTime, peerTimes, stepShards, stepTime, timeOfStep, bestStep};
+ghost use Rattle.adaptive.specs.Policy.{isTable, hasCount, bestShards, policyRefusal, chosen, policyOf, rowsOf, Holds};
+use bitmap::ReplicaId;
+use times::PerfModel;
+
+// The fewest shards a replica.
+pub enum Floor {
+    Refused(u8),
+    Shards(usize),
+}
+
+// The initial layout, or the rows of so many shards a replica of the balanced table.
+pub enum Policy {
+    Refused(u8),
+    Initial,
+    Balanced(usize),
+}
+
+// The fewest shards a replica, all having equally many, with which those alive still answer.
+pub fn min_shards_per_replica(n: usize, f: usize, d: usize, majority: usize, alive: u64) -> Floor
+    ensures { λ r. ⌜ floored r ≡ minShardsOf n f d majority alive ⌝ }
+{
+    let no = floor_refusal(n, f, d, majority, alive);
+    if no != 0 {
+        return Floor::Refused(no);
+    }
+    Floor::Shards(floor_of(f, d, majority, bitmap::count(alive)))
+}
+
+// Picks the assignment for a value of `size` bytes and the peers now alive: the initial layout, or a count of the balanced table, which has n rows for each
+// count from d / majority to d, or nothing.
+pub fn pick_assignment_policy(
+    n: usize,
+    f: usize,
+    own: ReplicaId,
+    d: usize,
+    w: usize,
+    majority: usize,
+    size: u64,
+    inflight: [u64; 16],
+    models: [PerfModel; 16],
+    alive: u64,
+    initial: &[u64],
+    table: &[u64],
+    adaptive: bool,
+    balanced: bool,
+) -> Policy
+    ensures { λ r. ⌜ chosen r ≡ policyOf n f (own .0) d w majority size inflight models alive (now (initial .entry)) (now (table .entry)) adaptive balanced ⌝ }
+{
+    let no = policy_refusal(
+        n,
+        f,
+        own,
+        d,
+        w,
+        majority,
+        size,
+        inflight,
+        alive,
+        initial,
+        table,
+    );
+    if no != 0 {
+        return Policy::Refused(no);
+    }
+    if !balanced {
+        return Policy::Initial;
+    }
+    let best = best_shards(
+        n,
+        f,
+        own,
+        d,
+        majority,
+        size,
+        inflight,
+        models,
+        initial,
+        adaptive,
+    );
+    let shards = larger(best, floor_of(f, d, majority, bitmap::count(alive)));
+    if has_count(d, majority, table.len(), shards) {
+        return Policy::Balanced(shards);
+    }
+    Policy::Initial
+}
+
+// The rows of that choice: a part of one of the two lent tables, empty where the input is refused.
+pub fn pick_assignment_policy_rows<'a>(
+    n: usize,
+    f: usize,
+    own: ReplicaId,
+    d: usize,
+    w: usize,
+    majority: usize,
+    size: u64,
+    inflight: [u64; 16],
+    models: [PerfModel; 16],
+    alive: u64,
+    initial: &'a [u64],
+    table: &'a [u64],
+    adaptive: bool,
+    balanced: bool,
+) -> &'a [u64]
+    ensures { λ r. ⌜ now r ≡ rowsOf n d majority (policyOf n f (own .0) d w majority size inflight models alive (now (initial .entry)) (now (table .entry)) adaptive balanced) (now (initial .entry)) (now (table .entry)) ⌝ }
+{
+    let choice = pick_assignment_policy(
+        n,
+        f,
+        own,
+        d,
+        w,
+        majority,
+        size,
+        inflight,
+        models,
+        alive,
+        initial,
+        table,
+        adaptive,
+        balanced,
+    );
+    rows_of(n, d, majority, choice, initial, table)
+}
+
+// The rows of a choice. A part: the table has the count.
+fn rows_of<'a>(
+    n: usize,
+    d: usize,
+    majority: usize,
+    choice: Policy,
+    initial: &'a [u64],
+    table: &'a [u64],
+) -> &'a [u64]
+    requires { ⌜ Holds n d majority (chosen choice) (length (now table)) ⌝ }
+    ensures { λ r. ⌜ now r ≡ rowsOf n d majority (chosen choice) (now (initial .entry)) (now (table .entry)) ⌝ }
+{
+    match choice {
+        Policy::Refused(_) => &initial[..0],
+        Policy::Initial => initial,
+        Policy::Balanced(shards) => {
+            let from = (shards - d / majority) * n;
+            &table[from..from + n]
+        }
+    }
+}
+
+fn floor_refusal(n: usize, f: usize, d: usize, majority: usize, alive: u64) -> u8
+    ensures { λ r. ⌜ r ≡ floorRefusal n f d majority alive ⌝ }
+{
+    if !refusals::is_population(n) {
+        return refusals::POPULATION;
+    }
+    if !refusals::is_tolerance(n, f) {
+        return refusals::TOLERANCE;
+    }
+    if !refusals::is_shards(d, d) {
+        return refusals::SHARDS;
+    }
+    if !refusals::is_quorum(n, majority) {
+        return refusals::QUORUM;
+    }
+    if d % majority != 0 {
+        return refusals::MULTIPLE;
+    }
+    if !refusals::is_mask(n, alive) {
+        return refusals::MASK;
+    }
+    0
+}
+
+fn policy_refusal(
+    n: usize,
+    f: usize,
+    own: ReplicaId,
+    d: usize,
+    w: usize,
+    majority: usize,
+    size: u64,
+    inflight: [u64; 16],
+    alive: u64,
+    initial: &[u64],
+    table: &[u64],
+) -> u8
+    ensures { λ r. ⌜ r ≡ policyRefusal n f (own .0) d w majority size inflight alive (now (initial .entry)) (now (table .entry)) ⌝ }
+{
+    if !refusals::is_population(n) {
+        return refusals::POPULATION;
+    }
+    if !refusals::is_tolerance(n, f) {
+        return refusals::TOLERANCE;
+    }
+    if !refusals::is_replica(n, own) {
+        return refusals::REPLICA;
+    }
+    if !refusals::is_shards(d, w) {
+        return refusals::SHARDS;
+    }
+    if !refusals::is_quorum(n, majority) {
+        return refusals::QUORUM;
+    }
+    if d % majority != 0 {
+        return refusals::MULTIPLE;
+    }
+    if !refusals::is_size(size) {
+        return refusals::BYTES;
+    }
+    if !peers_fit(n, own, inflight) {
+        return refusals::BYTES;
+    }
+    if !refusals::is_mask(n, alive) {
+        return refusals::MASK;
+    }
+    if !refusals::are_rows(w, initial) {
+        return refusals::MASK;
+    }
+    if !refusals::are_rows(w, table) {
+        return refusals::MASK;
+    }
+    if initial.len() != n {
+        return refusals::TABLE;
+    }
+    if !is_table(n, d, majority, table.len()) {
+        return refusals::TABLE;
+    }
+    0
+}
+
+// Whether the bytes in flight to each peer are within bounds. A part: the population has been tested.
+fn peers_fit(n: usize, own: ReplicaId, inflight: [u64; 16]) -> bool
+    requires { ⌜ n ≤ 16 ⌝ }
+    ensures { λ r. ⌜ r ≡ peersFit n (own .0) (inFlight inflight) ⌝ }
+{
+    let mut p = 0;
+    while p < n {
+        if refusals::is_overfull(own, ReplicaId(p), inflight[p]) {
+            return false;
+        } else {
+            p += 1;
+        }
+    }
+    true
+}
+
+// Whether a balanced table has that many rows: n for each count, or none. A part: the numbers have been tested.
+fn is_table(n: usize, d: usize, majority: usize, len: usize) -> bool
+    requires { ⌜ (n ≤ 16) × (d ≤ 64) × (0 < majority) ⌝ }
+    ensures { λ r. ⌜ r ≡ isTable n d majority len ⌝ }
+{
+    if len == 0 {
+        return true;
+    }
+    len == n * (d - d / majority + 1)
+}
+
+// Whether a balanced table of that many rows has the count. A part: the majority has been tested.
+fn has_count(d: usize, majority: usize, len: usize, shards: usize) -> bool
+    requires { ⌜ 0 < majority ⌝ }
+    ensures { λ r. ⌜ r ≡ hasCount d majority len shards ⌝ }
+{
+    if len == 0 {
+        return false;
+    }
+    if shards < d / majority {
+        return false;
+    }
+    shards <= d
+}
+
+fn larger(a: usize, b: usize) -> usize
+    ensures { λ r. ⌜ r ≡ max a b ⌝ }
+{
+    if a <= b { b } else { a }
+}
+
+// The fewest shards a replica: with many replicas alive any assignment works, with too few full copies are the most careful. A part: the numbers have been
+// tested.
+fn floor_of(f: usize, d: usize, majority: usize, alive: usize) -> usize
+    requires { ⌜ (f ≤ 16) × (d ≤ 64) × (0 < majority) × (majority ≤ 16) ⌝ }
+    ensures { λ r. ⌜ r ≡ floorOf f d majority alive ⌝ }
+{
+    let most = majority + f + 1;
+    if most <= alive {
+        return 0;
+    }
+    let shards = (most - alive) * (d / majority);
+    if shards <= d { shards } else { d }
+}
+
+// The shards a replica that the models favour; without adaptivity, those of the first row of the initial layout. A part: the numbers have been tested.
+fn best_shards(
+    n: usize,
+    f: usize,
+    own: ReplicaId,
+    d: usize,
+    majority: usize,
+    size: u64,
+    inflight: [u64; 16],
+    models: [PerfModel; 16],
+    initial: &[u64],
+    adaptive: bool,
+) -> usize
+    requires { ⌜ (0 < n) × (n ≤ 16) × (f < n) × (d ≤ 64) × (0 < d / majority) × (0 < majority) × (majority ≤ n) × (size ≤ 2 ^ 30) × (length (now initial) ≡ n) ⌝ }
+    requires { ⌜ InFlight n (own .0) (inFlight inflight) ⌝ }
+    ensures { λ r. ⌜ r ≡ bestShards n f (own .0) d majority size inflight models (now (initial .entry)) adaptive ⌝ }
+{
+    if adaptive {
+        let i = best_step(n, f, own, d, majority, size, inflight, models);
+        return (i + 1) * (d / majority);
+    }
+    bitmap::count(initial[0])
+}
+
+// The first step with the least time in total order.
+fn best_step(
+    n: usize,
+    f: usize,
+    own: ReplicaId,
+    d: usize,
+    majority: usize,
+    size: u64,
+    inflight: [u64; 16],
+    models: [PerfModel; 16],
+) -> usize
+    requires { ⌜ (0 < n) × (n ≤ 16) × (f < n) × (d ≤ 64) × (0 < d / majority) × (0 < majority) × (majority ≤ n) × (size ≤ 2 ^ 30) ⌝ }
+    requires { ⌜ InFlight n (own .0) (inFlight inflight) ⌝ }
+    ensures { λ r. ⌜ r ≡ bestStep n f (own .0) d majority size inflight models ⌝ }
+{
+    let steps = d / (d / majority);
+    let mut best = 0;
+    let mut least = time_of_step(n, f, own, d, majority, size, inflight, models, 0);
+    let mut i = 1;
+    while i < steps {
+        let time = time_of_step(n, f, own, d, majority, size, inflight, models, i);
+        if !floats::total_le(least, time) {
+            best = i;
+            least = time;
+        }
+        i += 1;
+    }
+    best
+}
+
+// The time of step i: when a quorum of majority + f - i has (i + 1) × (d / majority) shards each.
+fn time_of_step(
+    n: usize,
+    f: usize,
+    own: ReplicaId,
+    d: usize,
+    majority: usize,
+    size: u64,
+    inflight: [u64; 16],
+    models: [PerfModel; 16],
+    i: usize,
+) -> f64
+    requires { ⌜ (0 < n) × (n ≤ 16) × (f < n) × (d ≤ 64) × (0 < d) × (0 < majority) × (majority ≤ n) × (i < majority) × (size ≤ 2 ^ 30) ⌝ }
+    requires { ⌜ InFlight n (own .0) (inFlight inflight) ⌝ }
+    ensures { λ r. ⌜ r ≡ timeOfStep n f (own .0) d majority size inflight models i ⌝ }
+{
+    let shards = (i + 1) * (d / majority);
+    let load = (size / (d as u64) + 1) * (shards as u64);
+    step_time(n, own, majority + f - i, load, inflight, models)
+}
+
+// When the fastest q - 1 peers have the load; at once if there are none to hear from.
+fn step_time(
+    n: usize,
+    own: ReplicaId,
+    q: usize,
+    load: u64,
+    inflight: [u64; 16],
+    models: [PerfModel; 16],
+) -> f64
+    requires { ⌜ (0 < n) × (n ≤ 16) × (load ≤ 2 ^ 40) ⌝ }
+    requires { ⌜ InFlight n (own .0) (inFlight inflight) ⌝ }
+    ensures { λ r. ⌜ r ≡ stepTime n (own .0) q load inflight models ⌝ }
+{
+    if q < 2 {
+        return 0.0;
+    }
+    let mut times = [0.0f64; 16];
+    let m = n - 1;
+    peer_times(own, load, inflight, models, &mut times[..m]);
+    floats::sort(&mut times[..m]);
+    at_or_never(&times[..m], q - 2)
+}
+
+// The time at a place, or never.
+fn at_or_never(times: &[f64], k: usize) -> f64
+    ensures { λ r. ⌜ r ≡ getD (now (times .entry)) k never ⌝ }
+{
+    if k < times.len() {
+        return times[k];
+    }
+    1.0 / 0.0
+}
+
+// The times of the peers, in rising order of their numbers. A part: there are at most 15 of them.
+fn peer_times(
+    own: ReplicaId,
+    load: u64,
+    inflight: [u64; 16],
+    models: [PerfModel; 16],
+    times: &mut [f64],
+)
+    requires { ⌜ (length (now times) < 16) × (load ≤ 2 ^ 40) ⌝ }
+    requires { ⌜ InFlight (length (now times) + 1) (own .0) (inFlight inflight) ⌝ }
+    ensures { λ _. ⌜ now (times .exit) ≡ peerTimes (length (now (times .entry))) (own .0) load inflight models ⌝ }
+{
+    let mut j = 0;
+    while j < times.len() {
+        let p = peer_at(own, j).0;
+        let model = models[p];
+        times[j] = times::predict(model, inflight[p] + load);
+        j += 1;
+    }
+}
+
+// The j-th of the peers.
+fn peer_at(own: ReplicaId, j: usize) -> ReplicaId
+    requires { ⌜ j < 16 ⌝ }
+    ensures { λ r. ⌜ r .0 ≡ peerAt (own .0) j ⌝ }
+{
+    if j < own.0 {
+        return ReplicaId(j);
+    }
+    ReplicaId(j + 1)
+}
