@@ -1,2 +1,3 @@
--- Gossip.
+-- Gossip, and what it means.
 pub mod Gossip
+pub mod RefusalLaws

@@ -1,0 +1,2 @@
+-- What the proofs of gossip share.
+pub mod Steps
