@@ -1,3 +1,5 @@
 -- Gossip, and what it means.
 pub mod Gossip
 pub mod RefusalLaws
+pub mod TurnLaws
+pub mod GossipLaws
