@@ -1,7 +1,8 @@
 -- How the parts of the walk come to what is defined. The premises of each law are the fields of a need's record. Assumes nothing.
-use mathlib.Core.Path.{_≡_, refl, sym, ap, ap₂, _∙_}
-use mathlib.Core.Bool.{Bool, true, false, not, cond, _||_}
-use mathlib.Core.List.{List, [], _∷_, foldl, foldl-append, append-nil}
+use mathlib.Core.Path.{_≡_, sym, ap, _∙_}
+use mathlib.Core.Logic.{inl, inr}
+use mathlib.Core.Bool.{Bool, true, false, not}
+use mathlib.Core.List.{List, [], _∷_, foldl, foldl-append}
 use Prim.Native.Nat.{ℕ, _+_, _-_, _%_, _≤_}
 use native.Mathlib.Omega.{arith}
 use borrow.Author.Tests.{eq-eqb, ne-eqb, not-true, not-false}
@@ -14,6 +15,8 @@ use Rattle.refusals.specs.Outcome.{accepted}
 use Rattle.refusals.proofs.Outcomes.{is-accepted}
 use Rattle.gossip.specs.Gossip.{Walked, fresh, met, visit, ring, round, turns, walk, gossipRefusal, gossipOf, exclusionsLeft}
 use Rattle.gossip.specs.RefusalLaws.{gossip-sound}
+use Rattle.gossip.specs.TurnLaws.{source-last, source-own}
+use Rattle.gossip.specs.WalkLaws.{visit-passed, visit-met}
 
 -- ---- `meet`: a is what is then available, k its count
 module _ (d row : ℕ) (w : Walked) (p a k : ℕ) (e : a ≡ bitOr (w .available) row) (q : k ≡ count a) where
@@ -26,46 +29,47 @@ module _ (d row : ℕ) (w : Walked) (p a k : ℕ) (e : a ≡ bitOr (w .available
   unfolding met
   adds m t h = rw (h, q, e, ne-eqb (bitOr (w .available) row) (w .available) (λ u. t (e ∙ u)))
 
--- ---- `visit`
+-- ---- `visit`: r is whether p is alive
 module _ (d : ℕ) (row : ℕ → ℕ) (alive : ℕ) (w : Walked) (p : ℕ) where
-  turn : (v : Walked) (a b : Bool) → w .over ≡ a → hasBit alive p ≡ b → v ≡ cond (a || not b) w (met d (row p) w p) → v ≡ visit d row alive w p
-  unfolding visit
-  turn v a b e q h = h ∙ sym (ap₂ (λ (x y : Bool). cond (x || not y) w (met d (row p) w p)) e q)
-
   pub visit-over : w .over ≡ true → w ≡ visit d row alive w p
-  visit-over e = turn w true (hasBit alive p) e refl refl
+  visit-over o = sym (visit-passed d row alive w p (inl o))
 
-  module _ (r : Bool) (e : w .over ≡ false) (q : r ≡ hasBit alive p) where
+  module _ (r : Bool) (q : r ≡ hasBit alive p) where
     pub visit-dead : not r ≡ true → w ≡ visit d row alive w p
-    visit-dead t = turn w false false e (sym q ∙ not-true r t) refl
+    visit-dead t = sym (visit-passed d row alive w p (inr (sym q ∙ not-true r t)))
 
-    pub visit-live : (v : Walked) → not r ≡ false → v ≡ met d (row p) w p → v ≡ visit d row alive w p
-    visit-live v t h = turn v false true e (sym q ∙ not-false r t) h
+    pub visit-live : (v : Walked) → w .over ≡ false → not r ≡ false → v ≡ met d (row p) w p → v ≡ visit d row alive w p
+    visit-live v o t h = h ∙ sym (visit-met d row alive w p o (sym q ∙ not-false r t))
 
--- ---- `walk_ring`: w is how far the walk has come before the place j of the ring
+-- ---- `walk_ring`: w is how far it has come before the place j of the ring
 module _ (n own source d : ℕ) (row : ℕ → ℕ) (alive : ℕ) (start : Walked) where
+  abbrev step : Walked → ℕ → Walked
+  step = visit d row alive
+
+  abbrev other : ℕ → Bool
+  other p = not (eqb p source)
+
+  abbrev place : ℕ → ℕ
+  place j = (own + 1 + j) % n
+
   abbrev pub ringTo : ℕ → Walked
-  ringTo j = takenBelow (visit d row alive) start (λ (p : ℕ). not (eqb p source)) (λ (j : ℕ). (own + 1 + j) % n) j
+  ringTo j = takenBelow step start other place j
 
   pub ring-starts : start ≡ ringTo 0
-  ring-starts = taken-none (visit d row alive) start (λ (p : ℕ). not (eqb p source)) (λ (j : ℕ). (own + 1 + j) % n)
+  ring-starts = taken-none step start other place
 
   module _ (j : ℕ) (w : Walked) (e : w ≡ ringTo j) where
-    pub ring-source : (own + 1 + j) % n ≡ source → w ≡ ringTo (j + 1)
-    ring-source h =
-        e ∙ sym (taken-no (visit d row alive) start (λ (p : ℕ). not (eqb p source)) (λ (j : ℕ). (own + 1 + j) % n) j (ap not (eq-eqb ((own + 1 + j) % n) source h)))
+    pub ring-source : place j ≡ source → w ≡ ringTo (j + 1)
+    ring-source h = e ∙ sym (taken-no step start other place j (ap not (eq-eqb (place j) source h)))
 
-    pub ring-other : (v : Walked) → ((own + 1 + j) % n ≡ source → ⊥) → v ≡ visit d row alive w ((own + 1 + j) % n) → v ≡ ringTo (j + 1)
-    ring-other v h q =
-        q ∙ ap (λ (x : Walked). visit d row alive x ((own + 1 + j) % n)) e
-        ∙ sym (taken-yes (visit d row alive) start (λ (p : ℕ). not (eqb p source)) (λ (j : ℕ). (own + 1 + j) % n) j (ap not (ne-eqb ((own + 1 + j) % n) source h)))
+    pub ring-other : (v : Walked) → (place j ≡ source → ⊥) → v ≡ visit d row alive w (place j) → v ≡ ringTo (j + 1)
+    ring-other v h q = q ∙ ap (λ (x : Walked). step x (place j)) e ∙ sym (taken-yes step start other place j (ap not (ne-eqb (place j) source h)))
 
     -- what is over stays as it is
     pub ring-over : j + 1 ≤ n → w .over ≡ true → w ≡ foldl (visit d row alive) start (round n own source)
     unfolding round ring
     ring-over h o =
-        e ∙ sym (taken-still (visit d row alive) start (λ (p : ℕ). not (eqb p source)) (λ (j : ℕ). (own + 1 + j) % n) j (n - 1) (omega arith)
-        (λ p. sym (visit-over d row alive (ringTo j) p (ap (λ (x : Walked). x .over) (sym e) ∙ o))))
+        e ∙ sym (taken-still step start other place j (n - 1) (omega arith) (λ p. visit-passed d row alive (ringTo j) p (inl (ap (λ (x : Walked). x .over) (sym e) ∙ o))))
 
     pub ring-done : j + 1 ≤ n → n ≤ j + 1 → w ≡ foldl (visit d row alive) start (round n own source)
     unfolding round ring
@@ -74,13 +78,11 @@ module _ (n own source d : ℕ) (row : ℕ → ℕ) (alive : ℕ) (start : Walke
 -- ---- `walk`: w is how far it has come once round
 module _ (n own source d : ℕ) (row : ℕ → ℕ) (alive : ℕ) (start w : Walked) (e : w ≡ foldl (visit d row alive) start (round n own source)) where
   pub ends-round : source ≡ own → w ≡ foldl (visit d row alive) start (turns n own source)
-  unfolding turns
-  ends-round h = rw (eq-eqb source own h, append-nil) e
+  ends-round h = rw (source-own n own source h) e
 
   pub ends-source : (v : Walked) → (source ≡ own → ⊥) → v ≡ visit d row alive w source → v ≡ foldl (visit d row alive) start (turns n own source)
-  unfolding turns
   ends-source v h q =
-      rw (ne-eqb source own h) (q ∙ ap (λ (x : Walked). visit d row alive x source) e ∙ sym (foldl-append (visit d row alive) start (round n own source) (source ∷ [])))
+      rw (source-last n own source h, foldl-append (visit d row alive) start (round n own source) (source ∷ [])) (q ∙ ap (λ (x : Walked). visit d row alive x source) e)
 
 -- ---- `gossip_targets_excl`: the table is filled with 0, and then walked
 module _ (n own source d w available : ℕ) (rows : List ℕ) (alive : ℕ) (exclusions : List ℕ) (got : ℕ)

@@ -2,4 +2,6 @@
 pub mod Gossip
 pub mod RefusalLaws
 pub mod TurnLaws
+pub mod UnionLaws
+pub mod WalkLaws
 pub mod GossipLaws

@@ -15,6 +15,18 @@ use Rattle.lists.specs.ListedLaws.{passing-listed, passing-distinct, distinct-m
 use Rattle.bitmap.specs.RunCounts.{apart}
 use Rattle.gossip.specs.Gossip.{ring, round, turns}
 
+-- ---- the source, if it is not oneself, is the last
+module _ (n own source : ℕ) where
+  pub source-last : (source ≡ own → ⊥) → turns n own source ≡ round n own source ++ (source ∷ [])
+  unfolding turns
+  source-last h = rw (ne-eqb source own h)
+
+  pub source-own : source ≡ own → turns n own source ≡ round n own source
+  unfolding turns
+  source-own h = rw (eq-eqb source own h, append-nil)
+
+-- ---- every peer has one turn
+
 -- a peer of own: one of n replicas, and not oneself
 abbrev pub Peer : ℕ → ℕ → ℕ → Type 0
 Peer n own p = (p < n) × (p ≡ own → ⊥)
@@ -60,16 +72,6 @@ module _ (n own : ℕ) (o : own < n) where
           λ h. m .1 (ring-means p .1 (h .0), ap not (ne-eqb p source (h .1))),
         )
 
-    -- if the source is not oneself it is the last
-    pub source-last : (source ≡ own → ⊥) → turns n own source ≡ round n own source ++ (source ∷ [])
-    unfolding turns
-    source-last h = rw (ne-eqb source own h)
-
-    -- and otherwise there is no source to leave to the last
-    pub source-own : source ≡ own → turns n own source ≡ round n own source
-    unfolding turns
-    source-own h = rw (eq-eqb source own h, append-nil)
-
     -- each peer has a turn, and nobody else
     pub turns-means : (p : ℕ) → List·Memᴰ p (turns n own source) ↔ Peer n own p
     turns-means p = go (ℕ-discrete source own) (ℕ-discrete p source)
@@ -79,9 +81,9 @@ module _ (n own : ℕ) (o : own < n) where
         last h (inr m) = let e = List·Memᴰ·eq-of-singleton m in (omega arith, λ q. h (sym e ∙ q))
 
         go : Dec (source ≡ own) → Dec (p ≡ source) → List·Memᴰ p (turns n own source) ↔ Peer n own p
-        go (yes q) t = rw (source-own q) (λ m. round-means p .0 m .0, λ h. round-means p .1 (h, λ e. h .1 (e ∙ q)))
-        go (no q) (yes t) = rw (source-last q) (λ m. last q (List·Memᴰ·append-cases (round n own source) m), λ h. Memᴰ·append-right (round n own source) (List·Memᴰ·head t))
-        go (no q) (no t) = rw (source-last q) (λ m. last q (List·Memᴰ·append-cases (round n own source) m), λ h. Memᴰ·append-left (source ∷ []) (round-means p .1 (h, t)))
+        go (yes q) t = rw (source-own n own source q) (λ m. round-means p .0 m .0, λ h. round-means p .1 (h, λ e. h .1 (e ∙ q)))
+        go (no q) (yes t) = rw (source-last n own source q) (λ m. last q (List·Memᴰ·append-cases (round n own source) m), λ h. Memᴰ·append-right (round n own source) (List·Memᴰ·head t))
+        go (no q) (no t) = rw (source-last n own source q) (λ m. last q (List·Memᴰ·append-cases (round n own source) m), λ h. Memᴰ·append-left (source ∷ []) (round-means p .1 (h, t)))
 
     -- once
     pub round-distinct : Distinct (round n own source)
@@ -93,5 +95,5 @@ module _ (n own : ℕ) (o : own < n) where
     turns-distinct = go (ℕ-discrete source own)
       where
         go : Dec (source ≡ own) → Distinct (turns n own source)
-        go (yes q) = rw (source-own q) round-distinct
-        go (no q) = rw (source-last q) (distinct-more (round n own source) source round-distinct (λ m. round-means source .0 m .1 refl))
+        go (yes q) = rw (source-own n own source q) round-distinct
+        go (no q) = rw (source-last n own source q) (distinct-more (round n own source) source round-distinct (λ m. round-means source .0 m .1 refl))
