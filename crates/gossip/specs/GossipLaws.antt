@@ -2,7 +2,7 @@
 use mathlib.Core.Path.{_≡_, refl, sym, ap, subst, _∙_}
 use mathlib.Core.Logic.{_↔_, ⊎-elim}
 use mathlib.Core.Bool.{true, false}
-use mathlib.Core.List.{List, [], _∷_, _++_, foldl, foldl-append, append-nil, List·Memᴰ·head, Memᴰ·append-right}
+use mathlib.Core.List.{List, [], _∷_, _++_, foldl-append, append-nil, List·Memᴰ·head, Memᴰ·append-right}
 use Prim.Native.Nat.{ℕ, _<_}
 use native.Mathlib.Decide.{decLt, ℕ-discrete}
 use native.Mathlib.Omega.{arith}

@@ -1,8 +1,8 @@
 -- Whose turn it is: every peer has one turn, and the source the last. Assumes nothing.
 use mathlib.Core.Path.{_≡_, refl, sym, ap, _∙_}
 use mathlib.Core.Logic.{_↔_, _⊎_, inl, inr}
-use mathlib.Core.Bool.{Bool, true, false, cond, not}
-use mathlib.Core.List.{List, [], _∷_, _++_, append-nil, List·Memᴰ, List·Memᴰ·head, List·Memᴰ·append-cases, List·Memᴰ·eq-of-singleton, Memᴰ·append-left, Memᴰ·append-right}
+use mathlib.Core.Bool.{not}
+use mathlib.Core.List.{[], _∷_, _++_, append-nil, List·Memᴰ, List·Memᴰ·head, List·Memᴰ·append-cases, List·Memᴰ·eq-of-singleton, Memᴰ·append-left, Memᴰ·append-right}
 use Prim.Native.Nat.{ℕ, _+_, _-_, _%_, _<_}
 use native.Mathlib.Nat.{mod-lt, mod-eq-of-lt, add-mod-left}
 use native.Mathlib.Decide.{decLt, ℕ-discrete}

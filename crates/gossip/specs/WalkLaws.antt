@@ -12,7 +12,7 @@ use lib.ListN.{length, getD, set, length-set}
 use lib.Seq.{getD-set-same, getD-set-other}
 use borrow.Author.Tests.{eq-eqb, ne-eqb, leb-true, leb-false}
 use Rattle.bitmap.specs.Mask.{bit, hasBit, withBit, count}
-use Rattle.bitmap.specs.MaskLaws.{bit-lt, bit-with, bit-same, bit-other, Beyond, beyond-means}
+use Rattle.bitmap.specs.MaskLaws.{bit-with, bit-same, bit-other, Beyond, beyond-means}
 use Rattle.bitmap.specs.CountLaws.{count-within}
 use Rattle.gossip.specs.Gossip.{Walked, met, visit}
 use Rattle.gossip.specs.UnionLaws.{UnionOf, LiveIn, union-within, union-unique, union-none, union-dead, union-live, union-with}

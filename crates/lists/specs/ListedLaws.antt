@@ -8,7 +8,7 @@ use native.Mathlib.Omega.{arith}
 use Rattle.lists.specs.All.{passing, AllOf, Distinct}
 use Rattle.lists.specs.AllLaws.{all-of-listed}
 use Rattle.lists.specs.Below.{eachBelow}
-use Rattle.lists.specs.BelowLaws.{Placed, each-below-listed}
+use Rattle.lists.specs.BelowLaws.{each-below-listed}
 
 -- ---- where an element stands
 module _ {A : Type 0} where
