@@ -3,7 +3,8 @@ use mathlib.Core.Path.{_≡_, sym, ap, _∙_}
 use mathlib.Core.Logic.{inl, inr}
 use mathlib.Core.Bool.{Bool, true, false, not}
 use mathlib.Core.List.{List, [], _∷_, foldl, foldl-append}
-use Prim.Native.Nat.{ℕ, _+_, _-_, _%_, _≤_}
+use Prim.Native.Nat.{ℕ, _+_, _-_, _%_, _≤_, _<_}
+use native.Mathlib.Nat.{mod-lt}
 use native.Mathlib.Omega.{arith}
 use borrow.Author.Tests.{eq-eqb, ne-eqb, not-true, not-false}
 use lib.Bits.{bitOr}
@@ -41,7 +42,14 @@ module _ (d : ℕ) (row : ℕ → ℕ) (alive : ℕ) (w : Walked) (p : ℕ) wher
     pub visit-live : (v : Walked) → w .over ≡ false → not r ≡ false → v ≡ met d (row p) w p → v ≡ visit d row alive w p
     visit-live v o t h = h ∙ sym (visit-met d row alive w p o (sym q ∙ not-false r t))
 
--- ---- `walk_ring`: w is how far it has come before the place j of the ring
+-- ---- `walk_ring`: each place of the ring is one of the rows
+pub place-below : (x n : ℕ) → 0 < n → n ≤ 16 → x % n < 64
+place-below x n z h = omega (arith, mod-lt x z)
+
+pub place-inside : (x n k : ℕ) → 0 < n → k ≡ n → x % n < k
+place-inside x n k z e = omega (arith, mod-lt x z)
+
+-- w is how far it has come before the place j of the ring
 module _ (n own source d : ℕ) (row : ℕ → ℕ) (alive : ℕ) (start : Walked) where
   abbrev step : Walked → ℕ → Walked
   step = visit d row alive

@@ -2,13 +2,11 @@
 use mathlib.Core.Path.{_≡_, refl, ap, ap₂, _∙_}
 use mathlib.Core.Logic.{⊎-elim}
 use Prim.Native.Nat.{_+_, _-_, _≤_}
-use native.Mathlib.Nat.{mod-lt}
-use native.Mathlib.Omega.{arith}
 use borrow.Author.Needs.{needs}
 use lib.ListN.{length}
 use Rattle.bitmap.specs.Mask.{rowIn}
 use Rattle.gossip.specs.Gossip.{walked, fresh}
-use Rattle.gossip.proofs.Steps.{ringTo, ring-starts, ring-source, ring-other, ring-over, ring-done}
+use Rattle.gossip.proofs.Steps.{place-below, place-inside, ringTo, ring-starts, ring-source, ring-other, ring-over, ring-done}
 use Rattle.gossip.proofs.walk_ring.Statement.{statement}
 use Rattle.gossip.proofs.walk_ring.Tie as tie
 
@@ -33,11 +31,7 @@ walk-ring-spec =
     (λ c. search needs)
     (λ c. search needs)
     (λ c. search needs)
-    (λ c κs.
-    let l = c .before .before .before .before .before .before in
-    let s = l .before .before .before in
-    let h = mod-lt (s .args .own .0 + 1 + l .loop .j) (s .pre .0) in
-    (omega arith, omega arith, omega arith))
+    (λ c κs. (search place-below, search place-inside, search needs))
     (λ c. search needs)
     (λ c. search needs)
     (λ c.
