@@ -10,7 +10,7 @@ use native.Mathlib.Omega.{arith}
 use native.Mathlib.Decide.{decLt, ℕ-discrete}
 use lib.Arith.{bin-ind}
 use lib.Pow.{ones-lt, shr-shr, pow-mono, pow-pos}
-use lib.Bits.{bitOr, bitAnd, or-step, and-step, or-shr, and-shr}
+use lib.Bits.{bitOr, bitAnd, or-step, and-step, or-shr, and-shr, or-zero-r}
 use Rattle.bitmap.specs.Mask.{allBelow, isBelow, bit, withBit}
 
 -- ---- single bits
@@ -78,6 +78,30 @@ within-or-left a b s = omega (arith, bit-or a b s)
 
 pub within-or-right : (a b : ℕ) → Within b (bitOr a b)
 within-or-right a b s = omega (arith, bit-or a b s)
+
+-- ---- what a union adds
+
+-- a member of b that is none of a
+pub record Beyond (a b : ℕ) : Type 0 where
+  pub member : ℕ
+  pub inside : bit b member ≡ 1
+  pub outside : bit a member ≡ 0
+
+beyond : (b a : ℕ) → (bitOr a b ≡ a → ⊥) → Beyond a b
+beyond = bin-ind (λ (n : ℕ). (a : ℕ) → (bitOr a n ≡ a → ⊥) → Beyond a n) (λ a h. absurd (h (or-zero-r a))) step
+  where
+    step : (n : ℕ) → ((a : ℕ) → (bitOr a (n / 2) ≡ a → ⊥) → Beyond a (n / 2)) → (a : ℕ) → (bitOr a n ≡ a → ⊥) → Beyond a n
+    step n ih a h = go (decLt (a % 2) (n % 2))
+      where
+        go : Dec (a % 2 < n % 2) → Beyond a n
+        go (yes l) = record { member = 0; inside = omega (arith, bit-zero n); outside = omega (arith, bit-zero a) }
+        go (no l) =
+            let r = ih (a / 2) (λ e. h (omega (arith, or-low a n, or-half a n))) in
+            record { member = suc (r .member); inside = sym (bit-half n (r .member)) ∙ r .inside; outside = sym (bit-half a (r .member)) ∙ r .outside }
+
+-- the union of a and b is not a exactly if b has such a member
+pub beyond-means : (a b : ℕ) → (bitOr a b ≡ a → ⊥) ↔ Beyond a b
+beyond-means a b = (beyond b a, λ r e. omega (arith, bit-or a b (r .member), ap (λ (m : ℕ). bit m (r .member)) e, r .inside, r .outside))
 
 -- ---- the width
 

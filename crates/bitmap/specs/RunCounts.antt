@@ -29,7 +29,7 @@ pub run-count : (a k : ℕ) → count (run a k) ≡ k
 run-count a k = gather-count (λ (i : ℕ). a + i) k (λ i j l g e. omega arith)
 
 -- numbers less than w apart are different modulo w
-apart : (w a t : ℕ) → 0 < t → t < w → a % w ≡ (a + t) % w → ⊥
+pub apart : (w a t : ℕ) → 0 < t → t < w → a % w ≡ (a + t) % w → ⊥
 apart w a t p h e = go (decLt (a % w + t) w) (mod-lt a (omega arith)) (e ∙ sym (mod-add-mod a w t))
   where
     go : Dec (a % w + t < w) → a % w < w → a % w ≡ (a % w + t) % w → ⊥

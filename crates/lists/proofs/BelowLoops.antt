@@ -3,7 +3,7 @@
 -- Assumes nothing.
 use mathlib.Core.Path.{_≡_, refl, sym, ap, _∙_}
 use mathlib.Core.Bool.{Bool, true, false, cond}
-use mathlib.Core.List.{List, [], _∷_, _++_, append-nil, append-assoc}
+use mathlib.Core.List.{List, [], _∷_, _++_, append-nil, append-assoc, foldl, foldl-append}
 use Prim.Native.Nat.{ℕ, zero, suc, _+_, _-_, _≤_, _<_}
 use native.Mathlib.Nat.{le-refl, le-trans}
 use native.Mathlib.Decide.{le-ind}
@@ -11,8 +11,10 @@ use native.Mathlib.Numerals.{add-one}
 use native.Mathlib.Omega.{arith}
 use lib.ListN.{length, take, set, length-append, length-drop, drop-of-length-le}
 use lib.Seq.{set-append-seam, drop-cons, take-suc-set}
+use Rattle.lists.specs.All.{passing}
 use Rattle.lists.specs.Below.{someBelow, thoseBelow, runFrom, eachBelow, front}
 use Rattle.lists.specs.BelowLaws.{some-below-means, each-below-length}
+use Rattle.lists.specs.ListedLaws.{passing-append}
 
 -- ---- one list at the front of another
 module _ (xs l : List ℕ) where
@@ -168,3 +170,30 @@ module _ (f : ℕ → Bool) (k : ℕ) where
 
   pub some-spent : (n : ℕ) → k ≤ n → n ≤ k → someBelow f k ≡ false → someBelow f n ≡ false
   some-spent n h g e = let q : k ≡ n = omega arith in rw q at e
+
+-- ---- a loop that takes a step at each of f 0, f 1, .. that passes
+module _ {A B : Type 0} (step : B → A → B) (b : B) (t : A → Bool) (f : ℕ → A) where
+  abbrev pub takenBelow : ℕ → B
+  takenBelow k = foldl step b (passing t (eachBelow f k))
+
+  pub taken-none : b ≡ takenBelow 0
+  unfolding eachBelow
+  taken-none = refl
+
+  next : (k : ℕ) → takenBelow (suc k) ≡ foldl step (takenBelow k) (passing t (f k ∷ []))
+  unfolding eachBelow
+  next k = ap (foldl step b) (passing-append t (eachBelow f k) (f k ∷ [])) ∙ foldl-append step b (passing t (eachBelow f k)) (passing t (f k ∷ []))
+
+  pub taken-yes : (k : ℕ) → t (f k) ≡ true → takenBelow (k + 1) ≡ step (takenBelow k) (f k)
+  taken-yes k e = rw add-one (next k ∙ rw e)
+
+  pub taken-no : (k : ℕ) → t (f k) ≡ false → takenBelow (k + 1) ≡ takenBelow k
+  taken-no k e = rw add-one (next k ∙ rw e)
+
+  -- where no step changes what it has come to, that is what it comes to
+  pub taken-still : (k n : ℕ) → k ≤ n → ((x : A) → step (takenBelow k) x ≡ takenBelow k) → takenBelow n ≡ takenBelow k
+  taken-still k n h still = le-ind (λ (m : ℕ). takenBelow m ≡ takenBelow k) refl (λ m l e. next m ∙ ap (λ (s : B). foldl step s (passing t (f m ∷ []))) e ∙ one (t (f m)) (f m)) n h
+    where
+      one : (v : Bool) (x : A) → foldl step (takenBelow k) (cond v (x ∷ []) []) ≡ takenBelow k
+      one true x = still x
+      one false x = refl

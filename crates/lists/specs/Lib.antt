@@ -3,6 +3,7 @@ pub mod All
 pub mod AllLaws
 pub mod Below
 pub mod BelowLaws
+pub mod ListedLaws
 pub mod Sort
 pub mod SortLaws
 pub mod First

@@ -1,0 +1,3 @@
+-- What the proofs of gossip share.
+pub mod Steps
+pub mod Examples
