@@ -1,7 +1,8 @@
 -- How the code of the steps comes to what the definitions say. The premises are the fields of a need's record. Assumes nothing.
-use mathlib.Core.Path.{_≡_, _∙_}
+use mathlib.Core.Path.{_≡_, sym, _∙_}
 use mathlib.Core.List.{List}
-use Prim.Native.Nat.{ℕ, suc, _+_, _-_, _^_, _≤_, _<_}
+use Prim.Native.Nat.{ℕ, _+_, _-_, _*_, _/_, _%_, _^_, _≤_, _<_}
+use native.Mathlib.Nat.{div-le-self, mul-le-mul}
 use native.Mathlib.Numerals.{add-one}
 use native.Mathlib.Omega.{arith}
 use lib.Ieee.{Float}
@@ -13,8 +14,8 @@ use Rattle.floats.specs.Floats.{totalLe}
 use Rattle.refusals.specs.LimitLaws.{InFlight}
 use Rattle.times.specs.declared.PerfModel.{PerfModel}
 use Rattle.times.specs.Times.{never, predictOf}
-use Rattle.adaptive.specs.Steps.{peerAt, inFlight, still, peerTime, peerTimes, stepTime}
-use Rattle.adaptive.specs.StepLaws.{peer-below, peer-not-own}
+use Rattle.adaptive.specs.Steps.{peerAt, inFlight, still, peerTime, peerTimes, stepTime, stepShards, bestStep}
+use Rattle.adaptive.specs.StepLaws.{shares-positive, steps-all, step-shards-le, peer-below, peer-not-own, best-step-means}
 
 -- ---- the j-th of m peers, p, and its time, of records for L replicas
 module _ (own j p L m : ℕ) (small : j < L) (same : L ≡ m) (place : p ≡ peerAt own j) where
@@ -34,3 +35,22 @@ module _ (n own q load m : ℕ) (inflight : List ℕ) (models : List PerfModel) 
       → sorted ≡ sortedBy totalLe unsorted → read ≡ sorted → r ≡ getD read (q - 2) never → r ≡ stepTime n own q load inflight models
   unfolding stepTime
   step-is times unsorted sorted read r t u s w e = rw (le-ltb q 2 several, peers, e, w, s, u, t)
+
+-- ---- the load of a step is within bounds
+pub load-le : (d majority i size : ℕ) → i < majority → d ≤ 64 → size ≤ 2 ^ 30 → (size / d + 1) * stepShards d majority i ≤ 2 ^ 40
+load-le d majority i size h e g =
+    let a : size / d + 1 ≤ 2 ^ 30 + 1 = omega (arith, div-le-self size d) in
+    let b : stepShards d majority i ≤ 64 = omega (arith, step-shards-le d majority i h) in
+    omega (arith, mul-le-mul a b)
+
+-- ---- the step chosen is below the majority
+module _ (n f own d majority size : ℕ) (inflight : List ℕ) (models : List PerfModel) (some : 0 < d) (multiple : d % majority ≡ 0) (i : ℕ)
+    (chosen : i ≡ bestStep n f own d majority size inflight models) where
+  pub best-small : i < majority
+  best-small =
+      let h = shares-positive d majority some multiple in
+      let b = best-step-means n f own d majority size inflight models h i .0 (sym chosen) in
+      omega (arith, b .inside, steps-all d majority some multiple)
+
+  pub best-le : stepShards d majority i ≤ d
+  best-le = step-shards-le d majority i best-small
