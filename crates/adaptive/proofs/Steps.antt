@@ -17,7 +17,7 @@ use Rattle.times.specs.Times.{never, predictOf}
 use Rattle.adaptive.specs.Steps.{peerAt, inFlight, still, peerTime, peerTimes, stepTime, stepShards, bestStep}
 use Rattle.adaptive.specs.StepLaws.{shares-positive, steps-all, step-shards-le, peer-below, peer-not-own, best-step-means}
 
--- ---- the j-th of m peers, p, and its time, of records for L replicas
+-- ---- the j-th of m peers, p, and its time; L is the length of the lent list
 module _ (own j p L m : ℕ) (small : j < L) (same : L ≡ m) (place : p ≡ peerAt own j) where
   pub peer-inside : p < m + 1
   peer-inside = rw (place, add-one) (peer-below own j m (omega arith))

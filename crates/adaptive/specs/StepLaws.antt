@@ -3,7 +3,7 @@
 use mathlib.Core.Path.{_≡_, refl, sym, ap, subst, _∙_}
 use mathlib.Core.Logic.{_↔_, ⊎-elim}
 use mathlib.Core.Bool.{Bool, true, false, not, cond}
-use mathlib.Core.List.{List, List·Memᴰ}
+use mathlib.Core.List.{List}
 use Prim.Native.Nat.{ℕ, suc, _+_, _-_, _*_, _/_, _%_, _≤_, _<_}
 use native.Mathlib.Nat.{mul-le-mul-right, mul-div-le, div-le-self, div-add-mod, le-div-iff-mul-le, mul-div-left, eq-zero-or-pos}
 use native.Mathlib.Numerals.{add-one}
@@ -16,12 +16,10 @@ use lib.ListN.{length, getD, List·getD-eq-default}
 use borrow.Author.Tests.{ltb-true, ltb-false, lt-ltb, le-ltb}
 use Rattle.lists.specs.All.{AllOf}
 use Rattle.lists.specs.AllLaws.{all-of-means, all-of-listed}
-use Rattle.lists.specs.Below.{eachBelow}
 use Rattle.lists.specs.BelowLaws.{Placed, each-below-length, each-below-at, each-below-listed}
-use Rattle.lists.specs.First.{leastUpTo}
-use Rattle.lists.specs.FirstLaws.{FirstLeast, least-means}
+use Rattle.lists.specs.FirstLaws.{least-means}
 use Rattle.lists.specs.Sort.{sortedBy}
-use Rattle.lists.specs.SortLaws.{countIf, KthLeast, kth-is, kth-means, sorted-length}
+use Rattle.lists.specs.SortLaws.{countIf, kth-is, kth-means, sorted-length}
 use Rattle.floats.specs.Floats.{plusZero, totalLe}
 use Rattle.floats.specs.FirstLaws.{Fits}
 use Rattle.floats.specs.OrderLaws as Order
@@ -34,19 +32,20 @@ use Rattle.adaptive.specs.Steps.{peerAt, peerTime, peerTimes, stepTime, 
 pub steps-means : (d majority i : ℕ) → 0 < d / majority → (i < steps d majority) ↔ (stepShards d majority i ≤ d)
 steps-means d majority i h = rw add-one (le-div-iff-mul-le h)
 
--- as many as the majority, if d is a multiple of it
+-- where d is a multiple of the majority, a replica has some shards at each step
 pub shares-positive : (d majority : ℕ) → 0 < d → d % majority ≡ 0 → 0 < d / majority
 shares-positive d majority h e =
     ⊎-elim
     (λ (z : d / majority ≡ 0). absurd (omega (arith, div-add-mod d majority, ap (λ (q : ℕ). majority * q) z)))
     (λ (p : 0 < d / majority). p) (eq-zero-or-pos (d / majority))
 
+-- and there are as many steps as the majority
 pub steps-all : (d majority : ℕ) → 0 < d → d % majority ≡ 0 → steps d majority ≡ majority
 steps-all d majority h e =
     let q : d ≡ majority * (d / majority) = omega (arith, div-add-mod d majority) in
     ap (λ (x : ℕ). x / (d / majority)) q ∙ mul-div-left majority (shares-positive d majority h e)
 
--- each of them has at most d shards a replica
+-- the steps below the majority have at most d shards a replica, whatever d is
 pub step-shards-le : (d majority i : ℕ) → i < majority → stepShards d majority i ≤ d
 step-shards-le d majority i h =
     let m : (i + 1) * (d / majority) ≤ majority * (d / majority) = mul-le-mul-right (d / majority) (omega arith) in
@@ -54,6 +53,7 @@ step-shards-le d majority i h =
 
 -- ---- the peers: the replicas but our own, each once
 module _ (own j : ℕ) where
+  -- the j-th of m peers is one of m + 1 replicas
   pub peer-below : (m : ℕ) → j < m → peerAt own j < suc m
   peer-below m h = go (ltb j own)
     where
@@ -61,6 +61,7 @@ module _ (own j : ℕ) where
       go true = omega arith
       go false = omega arith
 
+  -- and not our own
   pub peer-not-own : peerAt own j ≡ own → ⊥
   peer-not-own = go (ltb j own) refl
     where
@@ -68,6 +69,7 @@ module _ (own j : ℕ) where
       go true e h = omega (arith, ltb-true j own e)
       go false e h = omega (arith, ltb-false j own e)
 
+-- no two places have the same peer
 pub peer-once : (own i j : ℕ) → peerAt own i ≡ peerAt own j → i ≡ j
 peer-once own i j = go (ltb i own) (ltb j own) refl refl
   where
@@ -100,6 +102,7 @@ module _ (load : ℕ) (inflight : List ℕ) (models : List PerfModel) where
   peer-time-fits p = add-fits binary64 _ _
 
   module _ (m own : ℕ) where
+    -- as many as there are peers, each at its place
     pub peer-times-length : length (peerTimes m own load inflight models) ≡ m
     unfolding peerTimes
     peer-times-length = each-below-length (λ (j : ℕ). peerTime load inflight models (peerAt own j)) m
@@ -131,10 +134,13 @@ module _ (n own q load : ℕ) (inflight : List ℕ) (models : List PerfModel) wh
   unfolding stepTime
   several h = rw (le-ltb q 2 h)
 
+  missing : 2 ≤ q → n - 1 ≤ q - 2 → stepTime n own q load inflight models ≡ never
+  missing two h =
+      several two ∙ List·getD-eq-default (sortedBy totalLe times) never {n = q - 2} (omega (arith, sorted-length totalLe times, peer-times-length load inflight models (n - 1) own))
+
   -- more are to be heard from than there are
   pub step-time-missing : 0 < n → n < q → stepTime n own q load inflight models ≡ never
-  step-time-missing h g =
-      several (omega arith) ∙ List·getD-eq-default (sortedBy totalLe times) never {n = q - 2} (omega (arith, sorted-length totalLe times, peer-times-length load inflight models (n - 1) own))
+  step-time-missing h g = missing (omega arith) (omega arith)
 
   -- t is the time of a peer, at least q - 1 of the peers' times are at most t, and at most q - 2 are below it
   pub record Awaited (t : Float) : Type 0 where
@@ -145,9 +151,10 @@ module _ (n own q load : ℕ) (inflight : List ℕ) (models : List PerfModel) wh
     pub enough : q - 1 ≤ countIf (λ (x : Float). totalLe x t) times
     pub few : countIf (λ (x : Float). not (totalLe t x)) times ≤ q - 2
 
+  -- with 2 to n to hear from, that is the time and no other
   pub step-time-means : own < n → 2 ≤ q → q ≤ n → (t : Float) → (stepTime n own q load inflight models ≡ t) ↔ Awaited t
   unfolding peerTimes
-  step-time-means h two enough t =
+  step-time-means h two most t =
       let f : ℕ → Float = λ j. peerTime load inflight models (peerAt own j) in
       let k = kth-means totalLe Order.total Order.trans Fits Order.antisym times (q - 2) never t (peer-times-fit load inflight models (n - 1) own) (omega (arith, peer-times-length load inflight models (n - 1) own)) in (
         λ e.
@@ -164,6 +171,7 @@ module _ (n own q load : ℕ) (inflight : List ℕ) (models : List PerfModel) wh
             }),
       )
 
+  -- a step's time is a double too
   pub step-time-fits : Fits (stepTime n own q load inflight models)
   step-time-fits = go (decLt q 2) (decLt (q - 2) (n - 1))
     where
@@ -172,9 +180,7 @@ module _ (n own q load : ℕ) (inflight : List ℕ) (models : List PerfModel) wh
       go (no h) (yes l) =
           let w = kth-is totalLe Order.total Order.trans times (q - 2) never (omega (arith, peer-times-length load inflight models (n - 1) own)) in
           subst Fits (sym (several (omega arith))) (all-of-listed Fits times (peer-times-fit load inflight models (n - 1) own) (getD (sortedBy totalLe times) (q - 2) never) (w .listed))
-      go (no h) (no l) =
-          subst Fits (sym (several (omega arith) ∙ List·getD-eq-default (sortedBy totalLe times) never {n = q - 2} (omega (arith, sorted-length totalLe times, peer-times-length load inflight models (n - 1) own))))
-          (inf-fits binary64 false)
+      go (no h) (no l) = subst Fits (sym (missing (omega arith) (omega arith))) (inf-fits binary64 false)
 
 -- ---- the step chosen
 module _ (n f own d majority size : ℕ) (inflight : List ℕ) (models : List PerfModel) where
@@ -186,12 +192,13 @@ module _ (n f own d majority size : ℕ) (inflight : List ℕ) (models : List Pe
   time-of-step-fits i = step-time-fits n own _ _ inflight models
 
   -- its time is at most that of each step, and no earlier step has a time that is at most its own
-  pub record Best (i : ℕ) : Type 0 where
+  pub record BestStep (i : ℕ) : Type 0 where
     pub inside : i < steps d majority
     pub least : (j : ℕ) → j < steps d majority → totalLe (timeOf i) (timeOf j) ≡ true
     pub first : (j : ℕ) → j < i → totalLe (timeOf j) (timeOf i) ≡ false
 
-  pub best-step-means : 0 < d / majority → (i : ℕ) → (bestStep n f own d majority size inflight models ≡ i) ↔ Best i
+  -- such a step is chosen, and there is no other
+  pub best-step-means : 0 < d / majority → (i : ℕ) → (bestStep n f own d majority size inflight models ≡ i) ↔ BestStep i
   unfolding bestStep
   best-step-means h i =
       let m = least-means totalLe timeOf Order.total Order.trans (steps d majority - 1) i in

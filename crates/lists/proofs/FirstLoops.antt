@@ -1,6 +1,6 @@
 -- What a loop keeps that seeks the first number with the least value: best is that of the numbers below i, and low its value. The premises of each law are
 -- the fields of a need's record: t is the value at i, and r what the order's function returned. Assumes nothing.
-use mathlib.Core.Path.{_≡_, refl, sym, ap, _∙_}
+use mathlib.Core.Path.{_≡_, sym, ap, _∙_}
 use mathlib.Core.Bool.{Bool, true, false}
 use Prim.Native.Nat.{ℕ, zero, suc, _+_, _-_, _≤_, _<_}
 use native.Mathlib.Nat.{not-suc-le-zero}

@@ -1,16 +1,12 @@
 -- `adaptive::step_time` meets its contract. Assumes nothing.
-use mathlib.Core.Path.{sym, ap, _∙_}
-use mathlib.Core.List.{List}
-use Prim.Native.Nat.{_-_, _≤_}
+use Prim.Native.Nat.{_-_}
 use native.Mathlib.Omega.{arith}
 use borrow.Author.Needs.{needs}
-use borrow.Author.Tests.{lt-ltb, le-ltb}
+use borrow.Author.Tests.{lt-ltb}
 use lib.Ieee.{Float, ofBits}
-use lib.ListN.{getD, replicate}
+use lib.ListN.{replicate}
 use Rattle.lists.proofs.Lent.{lent, back, back-room, back-lent}
-use Rattle.lists.specs.Sort.{sortedBy}
-use Rattle.floats.specs.Floats.{plusZero, totalLe}
-use Rattle.times.specs.Times.{never}
+use Rattle.floats.specs.Floats.{plusZero}
 use Rattle.adaptive.specs.Steps.{stepTime}
 use Rattle.adaptive.proofs.Steps.{step-is}
 use Rattle.adaptive.proofs.step_time.Statement.{statement}
