@@ -2,4 +2,5 @@
 pub mod Loops
 pub mod SortLoops
 pub mod BelowLoops
+pub mod FirstLoops
 pub mod Lent

@@ -2,7 +2,7 @@
 use mathlib.Core.Path.{_≡_, refl, sym, ap, subst}
 use mathlib.Core.Logic.{_↔_, _⊎_, inl, inr}
 use mathlib.Core.Bool.{Bool, true, false, _||_, and-eq-true-iff, true≢false}
-use mathlib.Core.List.{List, [], _∷_, _++_, List·Memᴰ, List·Memᴰ·not-nil, List·Memᴰ·cases-cons}
+use mathlib.Core.List.{List, [], _∷_, _++_, List·Memᴰ, List·Memᴰ·head, List·Memᴰ·tail, List·Memᴰ·not-nil, List·Memᴰ·cases-cons}
 use Prim.Native.Nat.{ℕ, zero, suc, _<_, suc-le-suc}
 use native.Mathlib.Nat.{zero-lt-suc, not-suc-le-zero, le-of-suc-le-suc}
 use lib.ListN.{length, getD}
@@ -97,3 +97,9 @@ pub inside-any : {A : Type 0} (xs : List A) (i : ℕ) (a b : A) → i < length x
 inside-any [] i a b h = absurd (not-suc-le-zero h)
 inside-any (x ∷ xs) zero a b h = refl
 inside-any (x ∷ xs) (suc i) a b h = inside-any xs i a b (le-of-suc-le-suc h)
+
+-- what stands within a list is in it
+pub inside-listed : {A : Type 0} (xs : List A) (i : ℕ) (d : A) → i < length xs → List·Memᴰ (getD xs i d) xs
+inside-listed [] i d h = absurd (not-suc-le-zero h)
+inside-listed (x ∷ xs) zero d h = List·Memᴰ·head refl
+inside-listed (x ∷ xs) (suc i) d h = List·Memᴰ·tail (inside-listed xs i d (le-of-suc-le-suc h))

@@ -1,26 +1,23 @@
 -- The first element of a list in order that passes a test is the least that passes, found in one pass over the list as it stands. So a definition may
--- speak of the first in order, and the code need not sort. And what the first is: `first-means`, `none-means`. Assumes nothing.
-use mathlib.Core.Path.{_≡_, refl, sym, ap, _∙_}
-use mathlib.Core.Logic.{_↔_, _⊎_, inl, inr}
+-- speak of the first in order, and the code need not sort. And what the first is: `first-means`, `none-means`; and the first number with the least value:
+-- `least-means`. Assumes nothing.
+use mathlib.Core.Path.{_≡_, refl, sym, ap, subst, _∙_}
+use mathlib.Core.Logic.{_↔_, _⊎_, inl, inr, ⊎-elim}
 use mathlib.Core.List.{List, [], _∷_, foldl, List·Memᴰ, List·Memᴰ·head, List·Memᴰ·tail, List·Memᴰ·not-nil, List·Memᴰ·cases-cons}
 use mathlib.Core.Bool.{Bool, true, false, cond, true≢false}
 use mathlib.Core.Option.{Option, none, some, Option·some-injective, Option·none-ne-some, Option·some-ne-none}
+use Prim.Native.Nat.{ℕ, zero, suc, _≤_, _<_}
+use native.Mathlib.Nat.{le-refl, le-of-suc-le-suc, eq-or-lt-of-le}
+use native.Mathlib.Omega.{arith}
 use Rattle.lists.specs.All.{AllOf}
 use Rattle.lists.specs.AllLaws.{all-of-listed}
 use Rattle.lists.specs.Sort.{lowerBy, upperBy, insertBy, sortOntoBy, sortedBy}
-use Rattle.lists.specs.First.{firstThat, betterBy, leastThat}
-use Rattle.lists.specs.SortLaws.{parted, AtLeast, Ordered, insert-ordered, sorted-ordered, sorted-listed}
+use Rattle.lists.specs.First.{firstThat, betterBy, leastThat, leastUpTo}
+use Rattle.lists.specs.SortLaws.{parted, reflexive, AtLeast, Ordered, insert-ordered, sorted-ordered, sorted-listed}
 
 -- an order that is total and transitive, and that tells any two elements apart of which F holds
 module _ {A : Type 0} (le : A → A → Bool) (total : (x y : A) → le x y ≡ false → le y x ≡ true) (trans : (x y z : A) → le x y ≡ true → le y z ≡ true → le x z ≡ true)
     (F : A → Type 0) (antisym : (x y : A) → F x → F y → le x y ≡ true → le y x ≡ true → x ≡ y) where
-  reflexive : (x : A) → le x x ≡ true
-  reflexive x = go (le x x) refl
-    where
-      go : (b : Bool) → le x x ≡ b → le x x ≡ true
-      go true e = e
-      go false e = total x x e
-
   insert-all : (x : A) (l : List A) → F x → AllOf F l → AllOf F (insertBy le x l)
   insert-all x [] f a = (f, tt)
   insert-all x (y ∷ ys) f a = elim (parted le total y x) [
@@ -85,7 +82,7 @@ module _ {A : Type 0} (le : A → A → Bool) (total : (x y : A) → le x y ≡ 
         go : (v : Bool) → le y x ≡ v → firstThat t (insertBy le x ys) ≡ stepBy (firstThat t ys) x → firstThat t (insertBy le y ys) ≡ stepBy (firstThat t ys) y
             → firstThat t (cond v y x ∷ insertBy le (cond v x y) ys) ≡ stepBy (firstThat t (y ∷ ys)) x
         go true e p q = kept-first x y ys a o (t x) (t y) e p
-        go false e p q = swapped-first x y ys a o (t x) (t y) e q (first-above y (y ∷ ys) (reflexive y, o .0) a)
+        go false e p q = swapped-first x y ys a o (t x) (t y) e q (first-above y (y ∷ ys) (reflexive le total y, o .0) a)
 
     onto-first : (acc xs : List A) → AllOf F acc → Ordered le acc → AllOf F xs → firstThat t (sortOntoBy le acc xs) ≡ foldl stepBy (firstThat t acc) xs
     onto-first acc [] a o f = refl
@@ -121,7 +118,7 @@ module _ {A : Type 0} (le : A → A → Bool) (total : (x y : A) → le x y ≡ 
         after f q z (inr r) u = f .first z r u
 
         here : y ≡ x → (z : A) → (z ≡ y) ⊎ List·Memᴰ z ys → le x z ≡ true
-        here q z (inl r) = ap (λ (w : A). le w z) (sym q) ∙ ap (le y) r ∙ reflexive y
+        here q z (inl r) = ap (λ (w : A). le w z) (sym q) ∙ ap (le y) r ∙ reflexive le total y
         here q z (inr r) = ap (λ (w : A). le w z) (sym q) ∙ above-each y ys (o .0) z r
 
         go : (b : Bool) → t y ≡ b → (firstThat t ys ≡ some x → FirstIn ys x) → cond b (some y) (firstThat t ys) ≡ some x → FirstIn (y ∷ ys) x
@@ -169,3 +166,68 @@ module _ {A : Type 0} (le : A → A → Bool) (total : (x y : A) → le x y ≡ 
     -- x is found exactly if it is the first
     pub first-means : (xs : List A) (x : A) → AllOf F xs → (firstThat t (sortedBy le xs) ≡ some x) ↔ FirstIn xs x
     first-means xs x a = (found-first xs x, first-found xs x a)
+
+-- ---- the first of the numbers 0 to k with the least value
+module _ {A : Type 0} (le : A → A → Bool) (f : ℕ → A) where
+  -- its value is at most that of each of them, and no number before it has a value that is at most its own
+  pub record FirstLeast (k i : ℕ) : Type 0 where
+    pub within : i ≤ k
+    pub least : (j : ℕ) → j ≤ k → le (f i) (f j) ≡ true
+    pub first : (j : ℕ) → j < i → le (f j) (f i) ≡ false
+
+  -- the value that is found is that of the number
+  pub least-value : (k : ℕ) → leastUpTo le f k .1 ≡ f (leastUpTo le f k .0)
+  unfolding leastUpTo
+  least-value zero = refl
+  least-value (suc k) = go (le (leastUpTo le f k .1) (f (suc k))) (least-value k)
+    where
+      go : (b : Bool) → leastUpTo le f k .1 ≡ f (leastUpTo le f k .0)
+          → (cond {A = ℕ × A} b (leastUpTo le f k) (suc k, f (suc k))) .1 ≡ f ((cond {A = ℕ × A} b (leastUpTo le f k) (suc k, f (suc k))) .0)
+      go true ih = ih
+      go false ih = refl
+
+  module _ (total : (x y : A) → le x y ≡ false → le y x ≡ true) (trans : (x y z : A) → le x y ≡ true → le y z ≡ true → le x z ≡ true) where
+    kept : (k i : ℕ) → FirstLeast k i → le (f i) (f (suc k)) ≡ true → FirstLeast (suc k) i
+    kept k i p e = record {
+      within = omega (arith, p .within);
+      least = λ j h. ⊎-elim (λ (q : j ≡ suc k). ap (λ (m : ℕ). le (f i) (f m)) q ∙ e) (λ (l : j < suc k). p .least j (le-of-suc-le-suc l)) (eq-or-lt-of-le h);
+      first = p .first;
+    }
+
+    moved : (k i : ℕ) → FirstLeast k i → le (f i) (f (suc k)) ≡ false → FirstLeast (suc k) (suc k)
+    moved k i p e = record {
+      within = le-refl (suc k);
+      least = λ j h.
+          ⊎-elim (λ (q : j ≡ suc k). ap (λ (m : ℕ). le (f (suc k)) (f m)) q ∙ reflexive le total (f (suc k)))
+          (λ (l : j < suc k). trans (f (suc k)) (f i) (f j) (total (f i) (f (suc k)) e) (p .least j (le-of-suc-le-suc l))) (eq-or-lt-of-le h);
+      first = λ j h. go (p .least j (le-of-suc-le-suc h)) (le (f j) (f (suc k))) refl;
+    }
+      where
+        go : {j : ℕ} → le (f i) (f j) ≡ true → (b : Bool) → le (f j) (f (suc k)) ≡ b → le (f j) (f (suc k)) ≡ false
+        go {j} h true q = absurd (true≢false (sym (trans (f i) (f j) (f (suc k)) h q) ∙ e))
+        go h false q = q
+
+    pub least-is : (k : ℕ) → FirstLeast k (leastUpTo le f k .0)
+    unfolding leastUpTo
+    least-is zero = record {
+      within = le-refl 0;
+      least = λ j h. let e : 0 ≡ j = omega arith in ap (λ (m : ℕ). le (f 0) (f m)) (sym e) ∙ reflexive le total (f 0);
+      first = λ j h. absurd (omega arith);
+    }
+    least-is (suc k) = go (le (leastUpTo le f k .1) (f (suc k))) (ap (λ (x : A). le x (f (suc k))) (sym (least-value k))) (least-is k)
+      where
+        go : (b : Bool) → le (f (leastUpTo le f k .0)) (f (suc k)) ≡ b → FirstLeast k (leastUpTo le f k .0)
+            → FirstLeast (suc k) ((cond {A = ℕ × A} b (leastUpTo le f k) (suc k, f (suc k))) .0)
+        go true e p = kept k (leastUpTo le f k .0) p e
+        go false e p = moved k (leastUpTo le f k .0) p e
+
+    least-before : (k i j : ℕ) → FirstLeast k i → FirstLeast k j → i < j → ⊥
+    least-before k i j p q h = true≢false (sym (p .least j (q .within)) ∙ q .first i h)
+
+    -- there is one such number, and it is found
+    pub least-means : (k i : ℕ) → (leastUpTo le f k .0 ≡ i) ↔ FirstLeast k i
+    least-means k i =
+        let m = leastUpTo le f k .0 in (
+          λ e. subst (FirstLeast k) e (least-is k),
+          λ p. omega (arith, least-before k m i (least-is k) p, least-before k i m p (least-is k)),
+        )
