@@ -113,13 +113,6 @@ antisym (fin true m e) (fin false n d) f g h k = no k
 antisym (fin false m e) (fin true n d) f g h k = no h
 antisym (fin false m e) (fin false n d) f g h k = sym (ofBits-toBits binary64 _ f) ∙ ap (ofBits binary64) (same-bits false m e n d (le-antisymm (leb-true _ _ h) (leb-true _ _ k))) ∙ ofBits-toBits binary64 _ g
 
-pub total-refl : (x : Float) → totalLe x x ≡ true
-total-refl x = go (totalLe x x) refl
-  where
-    go : (b : Bool) → totalLe x x ≡ b → totalLe x x ≡ true
-    go true e = e
-    go false e = total x x e
-
 -- ---- total order and `<=`
 signed-number : (s : Bool) (a : ℕ) (t : Bool) (b : ℕ) → signedLe s a t b ≡ true → AtMost s a t b
 signed-number false a false b h = leb-true a b h
