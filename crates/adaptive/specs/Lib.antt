@@ -2,3 +2,5 @@
 pub mod Floor
 pub mod Steps
 pub mod Policy
+pub mod RefusalLaws
+pub mod PolicyLaws

@@ -2,7 +2,7 @@
 // (pick_assignment_policy), as a choice and as the rows that it stands for.
 ghost use mathlib.Core.Path.{_≡_};
 ghost use mathlib.Core.Bool.{not};
-ghost use Prim.Native.Nat.{_+_, _/_, _≤_, _<_, _^_, max};
+ghost use Prim.Native.Nat.{_+_, _/_, _%_, _≤_, _<_, _^_, max};
 ghost use lib.Dec.{eqb};
 ghost use lib.ListN.{length, getD};
 ghost use Rattle.bitmap.specs.Mask.{count};
@@ -312,7 +312,7 @@ fn best_shards(
     initial: &[u64],
     adaptive: bool,
 ) -> usize
-    requires { ⌜ (0 < n) × (n ≤ 16) × (f < n) × (d ≤ 64) × (0 < d / majority) × (0 < majority) × (majority ≤ n) × (size ≤ 2 ^ 30) × (length (now initial) ≡ n) ⌝ }
+    requires { ⌜ (0 < n) × (n ≤ 16) × (f < n) × (d ≤ 64) × (0 < d) × (d % majority ≡ 0) × (0 < majority) × (majority ≤ n) × (size ≤ 2 ^ 30) × (length (now initial) ≡ n) ⌝ }
     requires { ⌜ InFlight n (own .0) (inFlight inflight) ⌝ }
     ensures { λ r. ⌜ r ≡ bestShards n f (own .0) d majority size inflight models (now (initial .entry)) adaptive ⌝ }
 {
