@@ -1,2 +1,3 @@
 -- How the code comes to what the definitions say, and worked values.
 pub mod Entries
+pub mod Examples
