@@ -31,14 +31,14 @@ module _ (n f d majority alive : ℕ) where
   floor-sound = (
     λ e.
         let h = none-holds (floorCases n f d majority alive) refl .0 e in
-        let s = shards-means d d .0 (not-false _ (h .1 .1 .0)) in
+        let s = shards-means d d .0 (not-false _ (search h)) in
         record {
-          population = population-means n .0 (not-false _ (h .0));
-          tolerance = ltb-true f n (not-false _ (h .1 .0));
+          population = population-means n .0 (not-false _ (search h));
+          tolerance = ltb-true f n (not-false _ (search h));
           shards = (s .0, s .2);
-          enough = quorum-means n majority .0 (not-false _ (h .1 .1 .1 .0));
-          multiple = eqb-true (d % majority) 0 (not-false _ (h .1 .1 .1 .1 .0));
-          mask = ltb-true alive (2 ^ n) (not-false _ (h .1 .1 .1 .1 .1 .0));
+          enough = quorum-means n majority .0 (not-false _ (search h));
+          multiple = eqb-true (d % majority) 0 (not-false _ (search h));
+          mask = ltb-true alive (2 ^ n) (not-false _ (search h));
         },
     λ s.
         simp (
@@ -93,19 +93,19 @@ module _ (n f own d w majority size : ℕ) (inflight : List ℕ) (alive : ℕ) (
     λ e.
         let h = none-holds (policyCases n f own d w majority size inflight alive initial table) refl .0 e in
         record {
-          population = population-means n .0 (not-false _ (h .0));
-          tolerance = ltb-true f n (not-false _ (h .1 .0));
-          replica = ltb-true own n (not-false _ (h .1 .1 .0));
-          shards = shards-means d w .0 (not-false _ (h .1 .1 .1 .0));
-          enough = quorum-means n majority .0 (not-false _ (h .1 .1 .1 .1 .0));
-          multiple = eqb-true (d % majority) 0 (not-false _ (h .1 .1 .1 .1 .1 .0));
-          small = leb-true size (2 ^ 30) (not-false _ (h .1 .1 .1 .1 .1 .1 .0));
-          in-flight = peers-fit-means n own (inFlight inflight) .0 (not-false _ (h .1 .1 .1 .1 .1 .1 .1 .0));
-          mask = ltb-true alive (2 ^ n) (not-false _ (h .1 .1 .1 .1 .1 .1 .1 .1 .0));
-          each-initial = all-means (isRow w) 0 initial .0 (not-false _ (h .1 .1 .1 .1 .1 .1 .1 .1 .1 .0));
-          each-balanced = all-means (isRow w) 0 table .0 (not-false _ (h .1 .1 .1 .1 .1 .1 .1 .1 .1 .1 .0));
-          initial-rows = eqb-true (length initial) n (not-false _ (h .1 .1 .1 .1 .1 .1 .1 .1 .1 .1 .1 .0));
-          balanced-rows = table-means n d majority (length table) .0 (not-false _ (h .1 .1 .1 .1 .1 .1 .1 .1 .1 .1 .1 .1 .0));
+          population = population-means n .0 (not-false _ (search h));
+          tolerance = ltb-true f n (not-false _ (search h));
+          replica = ltb-true own n (not-false _ (search h));
+          shards = shards-means d w .0 (not-false _ (search h));
+          enough = quorum-means n majority .0 (not-false _ (search h));
+          multiple = eqb-true (d % majority) 0 (not-false _ (search h));
+          small = leb-true size (2 ^ 30) (not-false _ (search h));
+          in-flight = peers-fit-means n own (inFlight inflight) .0 (not-false _ (search h));
+          mask = ltb-true alive (2 ^ n) (not-false _ (search h));
+          each-initial = all-means (isRow w) 0 initial .0 (not-false _ (search h));
+          each-balanced = all-means (isRow w) 0 table .0 (not-false _ (search h));
+          initial-rows = eqb-true (length initial) n (not-false _ (search h));
+          balanced-rows = table-means n d majority (length table) .0 (not-false _ (search h));
         },
     λ s.
         simp (
