@@ -94,7 +94,7 @@ ten = 0x4024_0000_0000_0000
 abbrev model : ℕ → ℕ → ℕ → PerfModel
 model slope delay jitter = record { slope = ofBits binary64 slope; delay = ofBits binary64 delay; jitter = ofBits binary64 jitter }
 
--- ---- tables: an initial layout of three; the balanced ones of three replicas and of four for three counts, a count's tens rising from 1 on
+-- ---- tables: an initial layout of three; balanced ones of three replicas and of four, for three counts: the tens tell the count, the units the replica
 abbrev laid : List ℕ
 laid = 3 ∷ 40 ∷ 41 ∷ []
 

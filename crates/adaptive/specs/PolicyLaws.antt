@@ -82,7 +82,8 @@ module _ (n f d majority alive : ℕ) where
   unfolding minShardsOf
   floor-answer k = accepted-means (floorRefusal n f d majority alive) (floorOf f d majority (count alive)) k
 
-  -- what the floor is
+  -- it is at most d; it is 0 exactly if more than majority + f are alive; and step i has as many shards exactly if it needs no more replicas than are alive,
+  -- or is the last
   pub record IsFloor (k : ℕ) : Type 0 where
     pub within : k ≤ d
     pub nothing : (k ≡ 0) ↔ (majority + f < count alive)
@@ -170,7 +171,7 @@ module _ (n f own d w majority size : ℕ) (inflight : List ℕ) (models : List 
   abbrev policy : Outcome (Option ℕ)
   policy = policyOf n f own d w majority size inflight models alive initial table adaptive balanced
 
-  -- c is chosen
+  -- c is chosen: nothing refuses, the input is balanced, and c is the larger of choice and floor and one of the table's counts
   pub record Chosen (c : ℕ) : Type 0 where
     pub unrefused : number ≡ 0
     pub is-balanced : balanced ≡ true
@@ -263,7 +264,7 @@ module _ (n f own d w majority size : ℕ) (inflight : List ℕ) (models : List 
   rows-by : (o : Outcome (Option ℕ)) → policy ≡ o → rows ≡ rowsOf n d majority o initial table
   rows-by o e = ap (λ (x : Outcome (Option ℕ)). rowsOf n d majority x initial table) e
 
-  -- none of a refused input, the initial layout, or those of the count in the table
+  -- no row of a refused input; the initial layout; or the n rows of the count, which stand in the table from the place (c - d / majority) * n on
   pub rows-are : RowsAre
   rows-are = record {
     on-refusal = λ k e. rows-by (refused k) e;

@@ -26,22 +26,14 @@ pick-assignment-policy-spec =
     let i = c .before .before .before .before .before in
     tested _ _ _ _ _ _ _ _ _ _ _ _ (i .before .policy-refusal .ensures) (i .if1 .left) .enough .0)
     (λ c.
-    let h = c .before in
-    let l = h .before in
-    let f = l .before in
-    let k = f .before in
-    let b = k .before in
-    let u = b .before in
-    let i = u .before in
-    counted _ _ _ _ _ _ _ _ _ _ _ _ (i .before .policy-refusal .ensures) (i .if1 .left) _ _ _ (u .if2 .left) (b .best-shards .ensures) (f .floor-of .ensures) (k .count .ensures)
-    (l .larger .ensures) (h .has-count .ensures) (c .if3 .taken))
+    let l = c .before .before in
+    let k = l .before .before in
+    let u = k .before .before in
+    counted _ _ _ _ _ _ _ _ _ _ _ _ (u .before .before .policy-refusal .ensures) (u .before .if1 .left) _ _ _ (u .if2 .left) (k .before .best-shards .ensures) (l .before .floor-of .ensures)
+    (k .count .ensures) (l .larger .ensures) (c .before .has-count .ensures) (c .if3 .taken))
     (λ c.
-    let h = c .before in
-    let l = h .before in
-    let f = l .before in
-    let k = f .before in
-    let b = k .before in
-    let u = b .before in
-    let i = u .before in
-    uncounted _ _ _ _ _ _ _ _ _ _ _ _ (i .before .policy-refusal .ensures) (i .if1 .left) _ _ _ (u .if2 .left) (b .best-shards .ensures) (f .floor-of .ensures) (k .count .ensures)
-    (l .larger .ensures) (h .has-count .ensures) (c .if3 .left)))
+    let l = c .before .before in
+    let k = l .before .before in
+    let u = k .before .before in
+    uncounted _ _ _ _ _ _ _ _ _ _ _ _ (u .before .before .policy-refusal .ensures) (u .before .if1 .left) _ _ _ (u .if2 .left) (k .before .best-shards .ensures) (l .before .floor-of .ensures)
+    (k .count .ensures) (l .larger .ensures) (c .before .has-count .ensures) (c .if3 .left)))
