@@ -12,8 +12,6 @@ use lib.Dec.{leb, eqb}
 use lib.ListN.{length, take, drop}
 use borrow.Author.Tests.{le-leb, lt-leb, eq-eqb, ne-eqb, not-true, not-false}
 use Rattle.refusals.specs.First.{Case}
-use Rattle.refusals.specs.Limits.{isShards, isQuorum}
-use Rattle.refusals.specs.LimitLaws.{shards-means, quorum-means}
 use Rattle.refusals.specs.Outcome.{Outcome, refused, accepted}
 use Rattle.refusals.proofs.Outcomes.{is-refused, is-accepted}
 use Rattle.bitmap.specs.Mask.{count}
@@ -29,13 +27,6 @@ use Rattle.adaptive.specs.PolicyLaws.{rows-inside, count-held}
 abbrev pub onwards : List Case → ℕ → ℕ
 onwards [] rest = rest
 onwards (c ∷ cs) rest = cond (c .0) (c .1) (onwards cs rest)
-
--- ---- data shards that were tested are at most 64, and a majority is above 0
-pub small-shards : (d w : ℕ) (r : Bool) → r ≡ isShards d w → not r ≡ false → d ≤ 64
-small-shards d w r e t = omega (arith, shards-means d w .0 (sym e ∙ not-false r t))
-
-pub some-majority : (n majority : ℕ) (r : Bool) → r ≡ isQuorum n majority → not r ≡ false → 0 < majority
-some-majority n majority r e t = quorum-means n majority .0 (sym e ∙ not-false r t) .0
 
 -- ---- `floor_of`
 module _ (f d majority alive : ℕ) where

@@ -3,9 +3,9 @@ use mathlib.Core.Path.{_≡_, refl, sym, ap, _∙_}
 use mathlib.Core.Logic.{_↔_, _⊎_, inl, inr, ⊎-elim}
 use mathlib.Core.Bool.{Bool, true, false, not, cond, _&&_, and-eq-true-iff, true≢false}
 use mathlib.Core.List.{List, []}
-use mathlib.Core.Option.{Option, none, some}
-use Prim.Native.Nat.{ℕ, zero, suc, _+_, _-_, _*_, _/_, _%_, _≤_, _<_, min, max}
-use native.Mathlib.Nat.{zero-lt-suc, mul-pos, mul-comm, suc-mul, mul-le-mul-right, le-of-mul-le-mul-right, div-add-mod', sub-eq-zero-of-le}
+use mathlib.Core.Option.{Option, none, some, Option·some-injective, Option·some-ne-none, Option·none-ne-some}
+use Prim.Native.Nat.{ℕ, suc, _+_, _-_, _*_, _/_, _%_, _≤_, _<_, min, max}
+use native.Mathlib.Nat.{mul-pos, mul-comm, suc-mul, mul-le-mul-right, le-of-mul-le-mul-right, sub-eq-zero-of-le}
 use native.Mathlib.Decide.{decLt, decLe, ℕ-discrete}
 use native.Mathlib.Omega.{arith}
 use lib.Dec.{leb, eqb}
@@ -16,11 +16,13 @@ use Rattle.lists.specs.AllLaws.{all-means}
 use Rattle.bitmap.specs.Mask.{count}
 use Rattle.refusals.specs.Limits.{isRow}
 use Rattle.refusals.specs.LimitLaws.{AreRows}
-use Rattle.refusals.specs.Outcome.{Outcome, refused, accepted, outcome}
+use Rattle.refusals.specs.Outcome.{Outcome, refused, accepted}
 use Rattle.refusals.specs.OutcomeLaws.{accepted-means}
+use Rattle.refusals.specs.OutcomeLaws as Outcomes
 use Rattle.times.specs.declared.PerfModel.{PerfModel}
 use Rattle.adaptive.specs.Floor.{floorOf, floorRefusal, minShardsOf}
 use Rattle.adaptive.specs.Steps.{stepShards}
+use Rattle.adaptive.specs.StepLaws.{shares-whole, shares-positive}
 use Rattle.adaptive.specs.Policy.{hasCount, rowsFor, policyRefusal, bestShards, choiceOf, policyOf, rowsOf, Holds}
 use Rattle.adaptive.specs.RefusalLaws.{floor-sound, PolicySound, policy-sound}
 
@@ -29,15 +31,10 @@ use Rattle.adaptive.specs.RefusalLaws.{floor-sound, PolicySound, policy-
 -- of data shards that are a multiple of the majority, and so many replicas alive
 module _ (f d majority alive : ℕ) (filled : 0 < d) (multiple : d % majority ≡ 0) where
   whole : majority * (d / majority) ≡ d
-  whole = omega (arith, div-add-mod' d majority, mul-comm majority (d / majority))
+  whole = shares-whole d majority multiple
 
-  -- there is a shard in each step
-  pub part-filled : 0 < d / majority
-  part-filled = go (d / majority) whole
-    where
-      go : (k : ℕ) → majority * k ≡ d → 0 < k
-      go zero e = absurd (omega arith)
-      go (suc k) e = zero-lt-suc k
+  part-filled : 0 < d / majority
+  part-filled = shares-positive d majority filled multiple
 
   -- the replicas that the floor makes up for
   abbrev lacking : ℕ
@@ -139,7 +136,7 @@ module _ (t : Bool) (o : Option ℕ) where
     where
       go : (t : Bool) → (cond t o none ≡ some c) ↔ ((t ≡ true) × (o ≡ some c))
       go true = (λ e. (refl, e), λ h. h .1)
-      go false = (λ e. let z : _≡_ {A = ℕ} 0 1 = cc in absurd (omega arith), λ h. absurd (true≢false (sym (h .0))))
+      go false = (λ e. absurd (Option·none-ne-some c e), λ h. absurd (true≢false (sym (h .0))))
 
   unmade : (cond t o none ≡ none) ↔ ((t ≡ false) ⊎ (o ≡ none))
   unmade = go t
@@ -151,12 +148,6 @@ module _ (t : Bool) (o : Option ℕ) where
           else-made (inl e) = absurd (true≢false e)
           else-made (inr e) = e
       go false = (λ e. inl refl, λ h. refl)
-
-some-same : (a b : ℕ) → some a ≡ some b → a ≡ b
-some-same a b e = cc
-
-some-not-none : (a : ℕ) → some a ≡ none → ⊥
-some-not-none a e = let z : _≡_ {A = ℕ} 0 1 = cc in omega arith
 
 -- ---- `pick_assignment_policy` and `pick_assignment_policy_rows`
 module _ (n f own d w majority size : ℕ) (inflight : List ℕ) (models : List PerfModel) (alive : ℕ) (initial table : List ℕ) (adaptive balanced : Bool) where
@@ -191,7 +182,7 @@ module _ (n f own d w majority size : ℕ) (inflight : List ℕ) (models : List 
             let p = a .0 e in
             let q = b .0 (p .1) in
             let r = k .0 (q .1) in
-            let s = some-same larger c (r .1) in
+            let s = Option·some-injective larger c (r .1) in
             let t = count-there d majority (length table) larger .0 (r .0) in
             record { unrefused = p .0; is-balanced = q .0; is-larger = s; filled = t .0; least = omega (arith, t .1); most = omega (arith, t .2) },
         λ h.
@@ -216,18 +207,14 @@ module _ (n f own d w majority size : ℕ) (inflight : List ℕ) (models : List 
       let b = unmade balanced (cond has (some larger) none) in
       let k = unmade has (some larger) in
       let l = count-lacking d majority (length table) larger in (
-        λ e. (a .0 e .0, ⊎-elim (λ u. inl u) (λ u. inr (⊎-elim (λ v. l .0 v) (λ v. absurd (some-not-none larger v)) (k .0 u))) (b .0 (a .0 e .1))),
+        λ e. (a .0 e .0, ⊎-elim (λ u. inl u) (λ u. inr (⊎-elim (λ v. l .0 v) (λ v. absurd (Option·some-ne-none larger v)) (k .0 u))) (b .0 (a .0 e .1))),
         λ h. a .1 (h .0, b .1 (⊎-elim (λ u. inl u) (λ u. inr (k .1 (inl (l .1 u)))) (h .1))),
       )
 
   -- and refused with k exactly if k refuses
   pub refused-means : (k : ℕ) → (policy ≡ refused k) ↔ ((number ≡ k) × (k ≡ 0 → ⊥))
   unfolding policyOf
-  refused-means k = go number
-    where
-      go : (m : ℕ) → (outcome m (cond balanced (choiceOf d majority (length table) larger) none) ≡ refused k) ↔ ((m ≡ k) × (k ≡ 0 → ⊥))
-      go zero = (λ e. let z : _≡_ {A = ℕ} 0 1 = cc in absurd (omega arith), λ h. absurd (h .1 (sym (h .0))))
-      go (suc m) = (λ e. let q : suc m ≡ k = cc in (q, λ z. omega arith), λ h. ap refused (h .0))
+  refused-means k = Outcomes.refused-means number (cond balanced (choiceOf d majority (length table) larger) none) k
 
   -- a chosen count is at least the floor
   pub choice-floor : (c : ℕ) → policy ≡ accepted (some c) → floorOf f d majority (count alive) ≤ c

@@ -32,18 +32,21 @@ use Rattle.adaptive.specs.Steps.{peerAt, peerTime, peerTimes, stepTime, 
 pub steps-means : (d majority i : ℕ) → 0 < d / majority → (i < steps d majority) ↔ (stepShards d majority i ≤ d)
 steps-means d majority i h = rw add-one (le-div-iff-mul-le h)
 
--- where d is a multiple of the majority, a replica has some shards at each step
+-- where d is a multiple of the majority, the majority's shares make up d
+pub shares-whole : (d majority : ℕ) → d % majority ≡ 0 → majority * (d / majority) ≡ d
+shares-whole d majority e = omega (arith, div-add-mod d majority)
+
+-- and a replica has some shards at each step
 pub shares-positive : (d majority : ℕ) → 0 < d → d % majority ≡ 0 → 0 < d / majority
 shares-positive d majority h e =
     ⊎-elim
-    (λ (z : d / majority ≡ 0). absurd (omega (arith, div-add-mod d majority, ap (λ (q : ℕ). majority * q) z)))
+    (λ (z : d / majority ≡ 0). absurd (omega (arith, shares-whole d majority e, ap (λ (q : ℕ). majority * q) z)))
     (λ (p : 0 < d / majority). p) (eq-zero-or-pos (d / majority))
 
 -- and there are as many steps as the majority
 pub steps-all : (d majority : ℕ) → 0 < d → d % majority ≡ 0 → steps d majority ≡ majority
 steps-all d majority h e =
-    let q : d ≡ majority * (d / majority) = omega (arith, div-add-mod d majority) in
-    ap (λ (x : ℕ). x / (d / majority)) q ∙ mul-div-left majority (shares-positive d majority h e)
+    ap (λ (x : ℕ). x / (d / majority)) (sym (shares-whole d majority e)) ∙ mul-div-left majority (shares-positive d majority h e)
 
 -- the steps below the majority have at most d shards a replica, whatever d is
 pub step-shards-le : (d majority i : ℕ) → i < majority → stepShards d majority i ≤ d

@@ -9,8 +9,8 @@ use lib.Dec.{leb, ltb, eqb}
 use lib.ListN.{length, getD, drop}
 use borrow.Author.Tests.{lt-ltb, le-ltb, le-leb, lt-leb, eq-eqb, ne-eqb, not-true, not-false}
 use Rattle.lists.specs.All.{all}
-use Rattle.refusals.specs.Limits.{isPopulation, isUnder}
-use Rattle.refusals.specs.LimitLaws.{population-means}
+use Rattle.refusals.specs.Limits.{isPopulation, isShards, isQuorum, isUnder}
+use Rattle.refusals.specs.LimitLaws.{population-means, shards-means, quorum-means}
 use Rattle.lists.proofs.Loops.{Passed, pass, fail}
 
 -- ---- a range: `if b < a { return false; }`, and what is left of it
@@ -58,6 +58,13 @@ at-most-16 n r e t = population-means n .0 (sym e ∙ not-false r t) .1
 
 pub at-most-64 : (n : ℕ) (r : Bool) → r ≡ isPopulation n → not r ≡ false → n ≤ 64
 at-most-64 n r e t = omega (arith, at-most-16 n r e t)
+
+-- what data shards that passed give, and a majority
+pub small-shards : (d w : ℕ) (r : Bool) → r ≡ isShards d w → not r ≡ false → d ≤ 64
+small-shards d w r e t = omega (arith, shards-means d w .0 (sym e ∙ not-false r t))
+
+pub some-majority : (n majority : ℕ) (r : Bool) → r ≡ isQuorum n majority → not r ≡ false → 0 < majority
+some-majority n majority r e t = quorum-means n majority .0 (sym e ∙ not-false r t) .0
 
 -- ---- a loop that compares each element with a limit
 module _ (limit : ℕ) (xs : List ℕ) (i : ℕ) where

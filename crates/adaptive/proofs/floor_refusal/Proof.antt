@@ -1,8 +1,7 @@
 -- `adaptive::floor_refusal` meets its contract. Assumes nothing.
 use borrow.Author.Needs.{needs}
-use Rattle.refusals.proofs.Checks.{checks}
+use Rattle.refusals.proofs.Checks.{checks, some-majority}
 use Rattle.adaptive.specs.Floor.{floorRefusal}
-use Rattle.adaptive.proofs.Entries.{some-majority}
 use Rattle.adaptive.proofs.floor_refusal.Statement.{statement}
 use Rattle.adaptive.proofs.floor_refusal.Tie as tie
 

@@ -3,9 +3,9 @@ use mathlib.Core.Path.{_≡_, refl}
 use Prim.Native.Nat.{ℕ}
 use borrow.Author.Needs.{needs}
 use lib.ListN.{take}
-use Rattle.refusals.proofs.Checks.{checks, at-most-16, call-passes, call-fails, eq-passes, eq-fails}
+use Rattle.refusals.proofs.Checks.{checks, at-most-16, small-shards, some-majority, call-passes, call-fails, eq-passes, eq-fails}
 use Rattle.adaptive.specs.Policy.{policyCases, policyRefusal}
-use Rattle.adaptive.proofs.Entries.{onwards, small-shards, some-majority}
+use Rattle.adaptive.proofs.Entries.{onwards}
 use Rattle.adaptive.proofs.policy_refusal.Statement.{statement}
 use Rattle.adaptive.proofs.policy_refusal.Tie as tie
 
