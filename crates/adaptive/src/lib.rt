@@ -1,16 +1,13 @@
 // The balanced policy: the fewest shards a replica may hold under the peers now alive (min_shards_per_replica), and the assignment that the models favour
 // (pick_assignment_policy), as a choice and as the rows that it stands for.
 ghost use mathlib.Core.Path.{_≡_};
-ghost use mathlib.Core.Bool.{not};
-ghost use Prim.Native.Nat.{_+_, _/_, _%_, _≤_, _<_, _^_, max};
-ghost use lib.Dec.{eqb};
+ghost use Prim.Native.Nat.{_+_, _%_, _≤_, _<_, _^_, max};
 ghost use lib.ListN.{length, getD};
-ghost use Rattle.bitmap.specs.Mask.{count};
 ghost use Rattle.refusals.specs.Limits.{peersFit};
 ghost use Rattle.refusals.specs.LimitLaws.{InFlight};
 ghost use Rattle.times.specs.Times.{never};
 ghost use Rattle.adaptive.specs.Floor.{floorOf, floorRefusal, floored, minShardsOf};
-ghost use Rattle.adaptive.specs.Steps.{inFlight, peerAt, peerTime, peerTimes, stepShards, stepTime, timeOfStep, bestStep};
+ghost use Rattle.adaptive.specs.Steps.{inFlight, peerAt, peerTimes, stepTime, timeOfStep, bestStep};
 ghost use Rattle.adaptive.specs.Policy.{isTable, hasCount, bestShards, policyRefusal, chosen, policyOf, rowsOf, Holds};
 use bitmap::ReplicaId;
 use times::PerfModel;

@@ -6,15 +6,14 @@ use mathlib.Core.Bool.{Bool, true, false, not, cond}
 use mathlib.Core.List.{List, List·Memᴰ}
 use mathlib.Core.Option.{Option, none, some}
 use Prim.Native.Nat.{ℕ, _^_, _≤_, _<_}
-use native.Mathlib.Decide.{ℕ-discrete, decLt}
+use native.Mathlib.Decide.{decLt}
 use native.Mathlib.Omega.{arith}
 use lib.Ieee.{Float}
-use lib.ListN.{length, getD, replicate, length-replicate, getD-replicate}
+use lib.ListN.{length, replicate, length-replicate, getD-replicate}
 use lib.Pow.{pow-mono, ones-lt}
-use borrow.Author.Tests.{eqb-true, eq-eqb, ne-eqb, leb-true, le-leb, ltb-true, lt-ltb, not-true, not-false}
+use borrow.Author.Tests.{eqb-true, eq-eqb, leb-true, le-leb, ltb-true, lt-ltb, not-false}
 use Rattle.lists.specs.All.{AllOf}
 use Rattle.lists.specs.AllLaws.{all-means}
-use Rattle.lists.specs.BelowLaws.{none-below-means}
 use Rattle.bitmap.specs.Mask.{bit, count, run, rowIn}
 use Rattle.bitmap.specs.MaskLaws.{below-means}
 use Rattle.bitmap.specs.Members.{Many, many-map}
@@ -22,7 +21,7 @@ use Rattle.bitmap.specs.RunLaws.{run-all}
 use Rattle.bitmap.specs.RunCounts.{run-count}
 use Rattle.refusals.specs.Numbers.{TRIMMED}
 use Rattle.refusals.specs.FirstLaws.{none-holds}
-use Rattle.refusals.specs.Limits.{isInFlight, isRow}
+use Rattle.refusals.specs.Limits.{isRow}
 use Rattle.refusals.specs.LimitLaws.{AreRows, population-means, shards-means, quorum-means, fault-list-means, peers-fit-means}
 use Rattle.refusals.specs.Outcome.{refused, accepted}
 use Rattle.refusals.specs.OutcomeLaws.{checked-means, accepted-means}
@@ -35,7 +34,7 @@ use Rattle.layout.specs.declared.TotalShards.the-variants.{Exactly, AtMost}
 use Rattle.layout.specs.Layout.{Fit, bound, widthOf, rowsOf, layoutCommits}
 use Rattle.layout.specs.LayoutLaws.{width-fits, rows-length, rows-below}
 use Rattle.times.specs.declared.PeerRecord.{PeerRecord}
-use Rattle.times.specs.Times.{silent, shardLength, timesOf, PeersInBounds}
+use Rattle.times.specs.Times.{shardLength, timesOf, PeersInBounds}
 use Rattle.times.specs.TimeLaws.{times-fit}
 use Rattle.trimming.specs.Order.{trimOrder}
 use Rattle.trimming.specs.TrimmingLaws.{trimmed-length}

@@ -1,5 +1,5 @@
 -- Plans (`pick_assignment`) and full copies (`full_copies`). Assumes nothing.
-use mathlib.Core.Bool.{Bool, not, cond, _&&_}
+use mathlib.Core.Bool.{cond}
 use mathlib.Core.List.{List, [], _∷_}
 use mathlib.Core.Option.{Option, none, some}
 use Prim.Native.Nat.{ℕ}
