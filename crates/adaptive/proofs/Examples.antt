@@ -17,7 +17,7 @@ use Rattle.refusals.specs.Limits.{peersFit, isPopulation, isShards, isQuorum}
 use Rattle.times.specs.declared.PerfModel.{PerfModel}
 use Rattle.times.specs.Times.{predictOf}
 use Rattle.adaptive.specs.Floor.{floorOf, floorRefusal, minShardsOf}
-use Rattle.adaptive.specs.Steps.{still, peerTimes, stepTime, timeOfStep, bestStep}
+use Rattle.steps.specs.Steps.{still, peerTimes, stepTime, timeOfStep, bestStep}
 use Rattle.adaptive.specs.Policy.{policyRefusal, bestShards, policyOf, rowsOf}
 
 -- ---- `min_shards_per_replica`: the population, the tolerance, the data shards, the majority, those alive; then the answer

@@ -16,7 +16,7 @@ use Rattle.times.specs.declared.PerfModel.{PerfModel}
 use Rattle.adaptive.specs.declared.Policy.{Policy}
 use Rattle.adaptive.specs.declared.Policy.the-variants.{Refused, Initial, Balanced}
 use Rattle.adaptive.specs.Floor.{floorOf}
-use Rattle.adaptive.specs.Steps.{inFlight, stepShards, bestStep}
+use Rattle.steps.specs.Steps.{inFlight, stepShards, bestStep}
 
 -- ---- the balanced table: n rows for each whole count, rising, from d / majority to d, or it is empty
 

@@ -21,8 +21,8 @@ use Rattle.refusals.specs.OutcomeLaws.{accepted-means}
 use Rattle.refusals.specs.OutcomeLaws as Outcomes
 use Rattle.times.specs.declared.PerfModel.{PerfModel}
 use Rattle.adaptive.specs.Floor.{floorOf, floorRefusal, minShardsOf}
-use Rattle.adaptive.specs.Steps.{stepShards}
-use Rattle.adaptive.specs.StepLaws.{shares-whole, shares-positive}
+use Rattle.steps.specs.Steps.{stepShards}
+use Rattle.steps.specs.StepLaws.{shares-whole, shares-positive}
 use Rattle.adaptive.specs.Policy.{hasCount, rowsFor, policyRefusal, bestShards, choiceOf, policyOf, rowsOf, Holds}
 use Rattle.adaptive.specs.RefusalLaws.{floor-sound, PolicySound, policy-sound}
 

@@ -13,7 +13,7 @@ use Rattle.refusals.specs.FirstLaws.{none-holds}
 use Rattle.refusals.specs.Limits.{isRow}
 use Rattle.refusals.specs.LimitLaws.{InFlight, population-means, shards-means, quorum-means, peers-fit-means}
 use Rattle.adaptive.specs.Floor.{floorCases, floorRefusal}
-use Rattle.adaptive.specs.Steps.{inFlight}
+use Rattle.steps.specs.Steps.{inFlight}
 use Rattle.adaptive.specs.Policy.{isTable, policyCases, policyRefusal}
 
 -- ---- `min_shards_per_replica`

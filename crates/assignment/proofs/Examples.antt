@@ -20,7 +20,7 @@ use Rattle.times.specs.declared.PeerRecord.{PeerRecord}
 use Rattle.times.specs.Times.{predictOf, settled, replyTime, timeAt, shardLength, silent, timesOf}
 use Rattle.trimming.specs.Order.{slower, peersOf, trimOrder}
 use Rattle.trimming.specs.Trimming.{keeps, tried, trimmedIn, trimmed}
-use Rattle.assignment.specs.Search.{runAt, answeredAt, loadsAt, commitsAt, firstTime}
+use Rattle.candidates.specs.Search.{runAt, answeredAt, loadsAt, commitsAt, firstTime}
 use Rattle.assignment.specs.Plans.{Plan, loadsFor, planOf, pickRefusal, pickOf, copiesRefusal, fullCopiesOf, copiesWritten}
 
 -- ---- floats by their bits

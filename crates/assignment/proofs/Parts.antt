@@ -1,24 +1,17 @@
 -- How the parts of a plan come to what the definitions say. The premises are the fields of a need's record. Assumes nothing.
 use mathlib.Core.Path.{_≡_, refl, sym, ap, _∙_}
-use mathlib.Core.Bool.{Bool, true, false, not, cond, _&&_}
-use mathlib.Core.List.{List, [], _∷_, foldl}
-use mathlib.Core.Option.{Option, none, some}
-use Prim.Native.Nat.{ℕ, zero, suc, _+_, _-_, _*_, _≤_, _<_, suc-le-suc}
-use native.Mathlib.Nat.{le-refl, mul-le-mul}
-use native.Mathlib.Numerals.{add-one}
+use mathlib.Core.Bool.{Bool, true, false, not}
+use mathlib.Core.List.{List}
+use mathlib.Core.Option.{Option, some}
+use Prim.Native.Nat.{ℕ, zero, suc, _+_, _-_, _*_, _≤_, suc-le-suc}
+use native.Mathlib.Nat.{mul-le-mul}
 use native.Mathlib.Omega.{arith}
-use lib.Ieee.{Float, le}
-use lib.ListN.{length, getD, take, set, replicate}
-use borrow.Author.Tests.{lt-ltb, not-true, not-false}
-use Rattle.lists.specs.All.{AllOf}
-use Rattle.lists.specs.First.{firstThat, betterBy}
-use Rattle.lists.specs.Sort.{sortedBy}
-use Rattle.lists.specs.Below.{runOf, eachBelow, front}
-use Rattle.lists.proofs.BelowLoops.{front-all, each-more}
-use Rattle.bitmap.specs.Mask.{withBit, maskBelow, run}
-use Rattle.bitmap.proofs.MaskLoops.{mask-yes, mask-no}
-use Rattle.floats.specs.Floats.{isFinite, totalLe, precedes}
-use Rattle.floats.specs.FirstLaws.{Fits, first-is-least, taken-means}
+use lib.Ieee.{Float}
+use lib.ListN.{length, replicate}
+use borrow.Author.Tests.{not-true, not-false}
+use Rattle.lists.specs.Below.{front}
+use Rattle.lists.proofs.BelowLoops.{front-all}
+use Rattle.bitmap.specs.Mask.{run}
 use Rattle.refusals.specs.Numbers.{TRIMMED}
 use Rattle.refusals.specs.Outcome.{Outcome, refused, accepted, checked}
 use Rattle.layout.specs.declared.TotalShards.{TotalShards}
@@ -27,24 +20,11 @@ use Rattle.layout.specs.LayoutLaws.{rows-length}
 use Rattle.trimming.specs.Order.{trimOrder}
 use Rattle.trimming.specs.Trimming.{trimmed}
 use Rattle.times.specs.declared.PeerRecord.{PeerRecord}
-use Rattle.times.specs.Times.{never, shardLength, timesOf}
-use Rattle.times.specs.TimeLaws.{place-within}
-use Rattle.assignment.specs.Search.{runAt, answers, loadAt, answeredAt, loadsAt, candidates, firstTime}
-use Rattle.assignment.specs.SearchLaws.{candidates-fit, peer-run}
+use Rattle.times.specs.Times.{shardLength, timesOf}
+use Rattle.candidates.proofs.Parts.{begins}
+use Rattle.candidates.specs.Search.{answeredAt, loadsAt, firstTime}
 use Rattle.assignment.specs.Plans.{Plan, loadsFor, laidOut, planAt, planOf, planned, pickRefusal, pickOf, copiesRefusal, copiesWritten}
 use Rattle.assignment.specs.PlanLaws.{Sound, pick-sound, copies-sound}
-
--- ---- `run_at`: the place where a peer's times begin
-pub begins : (p d : ℕ) → p * (d + 1) ≡ p * suc d
-begins p d = ap (λ (k : ℕ). p * k) (add-one d)
-
--- the time k places from a place on is at most t
-abbrev pub inTimeFrom : List Float → Float → ℕ → ℕ → Bool
-inTimeFrom times t from k = le (getD times (from + k) never) t
-
-module _ (own d : ℕ) (times : List Float) (t : Float) (p : ℕ) where
-  pub run-of-peer : {r : ℕ} → (p ≡ own → ⊥) → r ≡ runOf (inTimeFrom times t (p * (d + 1))) (suc d) → r ≡ runAt own d times t p
-  run-of-peer n e = e ∙ ap (λ (k : ℕ). runOf (inTimeFrom times t k) (suc d)) (begins p d) ∙ sym (peer-run own d times t p n)
 
 -- ---- `lay_out`
 module _ (n quorum d : ℕ) (total : TotalShards) (faults : List ℕ) (answered : ℕ) (t : Float) (loads rows : List ℕ) {r : Bool} (e : r ≡ layoutCommits n quorum d total answered faults loads) where
@@ -58,30 +38,6 @@ module _ (n quorum d : ℕ) (total : TotalShards) (faults : List ℕ) (answered 
       let g = s ∙ front-all (rowsOf d total loads) rows (omega (arith, rows-length d total loads, a, b)) in
       (rw (f, q, g), rw f g)
 
--- ---- `loads_at`: l has the loads below p, and m is the mask of those below p that answer
-module _ (own d : ℕ) (times : List Float) (t : Float) (p : ℕ) (l : List ℕ) (m r : ℕ) (loaded : take p l ≡ eachBelow (loadAt own d times t) p)
-    (masked : m ≡ maskBelow (answers own d times t) p) (e : r ≡ runAt own d times t p) (h : p < length l) where
-  abbrev Next : List ℕ → ℕ → Type 0
-  Next l′ m′ = (take (p + 1) l′ ≡ eachBelow (loadAt own d times t) (p + 1)) × (m′ ≡ maskBelow (answers own d times t) (p + 1))
-
-  -- it does not answer
-  pub next-silent : {l′ : List ℕ} {m′ : ℕ} → r ≡ 0 → l′ ≡ set l p 0 → m′ ≡ m → Next l′ m′
-  next-silent z f g = (
-    rw f (each-more (loadAt own d times t) l p loaded 0 h (omega (arith, e, z))),
-    g ∙ masked ∙ sym (mask-no (answers own d times t) p (rw (sym e ∙ z))),
-  )
-
-  -- it does
-  pub next-answers : {l′ : List ℕ} {m′ : ℕ} → (r ≡ 0 → ⊥) → l′ ≡ set l p (r - 1) → m′ ≡ withBit m p → Next l′ m′
-  next-answers z f g = (
-    rw f (each-more (loadAt own d times t) l p loaded (r - 1) h (ap (λ (k : ℕ). k - 1) e)),
-    g ∙ ap (λ (k : ℕ). withBit k p) masked ∙ sym (mask-yes (answers own d times t) p (lt-ltb 0 (runAt own d times t p) (omega (arith, e)))),
-  )
-
--- the place of a replica's last time is within the table
-pub row-inside : (n d p L : ℕ) → L ≡ n * suc d → p < n → p * suc d + d < L
-row-inside n d p L e h = let k = place-within d p d (le-refl d) n h in omega (arith, k)
-
 -- ---- `full_copies`
 pub copies-done : (n d : ℕ) (total : TotalShards) (rows : List ℕ) (got row : ℕ) (after : List ℕ) → got ≡ copiesRefusal n d total (length rows) → got ≡ 0 → row ≡ run 0 d
     → after ≡ replicate (length rows) row → after ≡ copiesWritten n d total rows
@@ -89,52 +45,6 @@ unfolding copiesWritten
 copies-done n d total rows got row after e z r f =
     let s = copies-sound n d total (length rows) .0 (sym e ∙ z) in
     rw (sym e ∙ z) (f ∙ rw (r, s .table))
-
--- ---- `consider`: t says whether the layout at x commits, and b is the best so far
-module _ (t : Bool) (b : Option Float) (x : Float) where
-  abbrev Considered : Option Float → Type 0
-  Considered r = r ≡ cond (isFinite x && t) (betterBy totalLe b x) b
-
-  -- x is no candidate
-  pub passed-over : {r : Bool} → r ≡ isFinite x → not r ≡ true → Considered b
-  passed-over {r} e u = rw (sym e ∙ not-true r u)
-
-  -- it does not stand before the best, so it need not be tested
-  pub not-before : {r : Bool} → r ≡ precedes x b → not r ≡ true → Considered b
-  not-before {r} e u = sym (taken-means (isFinite x && t) b x ∙ rw (sym e ∙ not-true r u))
-
-  -- it does, and commits
-  pub best-yet : {f r s : Bool} → f ≡ isFinite x → not f ≡ false → r ≡ precedes x b → not r ≡ false → s ≡ t → s ≡ true → Considered (some x)
-  best-yet {f} {r} e u g v h w = sym (taken-means (isFinite x && t) b x ∙ rw (sym g ∙ not-false r v, sym e ∙ not-false f u, sym h ∙ w))
-
-  -- it does not commit
-  pub not-yet : {s : Bool} → s ≡ t → s ≡ false → Considered b
-  not-yet e u = rw (sym e ∙ u) (go (isFinite x))
-    where
-      go : (f : Bool) → b ≡ cond (f && false) (betterBy totalLe b x) b
-      go true = refl
-      go false = refl
-
--- ---- `first_time`: the least candidate, in one pass over all times
-module _ (commits : Float → Bool) where
-  -- what one time more does to what was found
-  abbrev pub step : Option Float → Float → Option Float
-  step b x = cond (isFinite x && commits x) (betterBy totalLe b x) b
-
-  abbrev taking : Option Float → Float → Option Float
-  taking b x = cond (commits x) (betterBy totalLe b x) b
-
-  over : (b : Option Float) (times : List Float) → foldl step b times ≡ foldl taking b (candidates times)
-  over b [] = refl
-  over b (x ∷ xs) = go (isFinite x) (over b xs) (over (taking b x) xs)
-    where
-      go : (f : Bool) → foldl step b xs ≡ foldl taking b (candidates xs) → foldl step (taking b x) xs ≡ foldl taking (taking b x) (candidates xs)
-          → foldl step (cond (f && commits x) (betterBy totalLe b x) b) xs ≡ foldl taking b (cond f (x ∷ candidates xs) (candidates xs))
-      go true p q = q
-      go false p q = p
-
-  pub least-found : (times : List Float) → AllOf Fits times → foldl step none times ≡ firstThat commits (sortedBy totalLe (candidates times))
-  least-found times a = over none times ∙ sym (first-is-least commits (candidates times) (candidates-fit times a))
 
 -- ---- `loads_for`: the table of times is small, and what trimming was given
 pub table-small : (n d L : ℕ) → n ≤ 16 → d ≤ 64 → L ≡ n * suc d → L ≤ 1040

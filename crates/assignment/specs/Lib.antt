@@ -1,5 +1,3 @@
--- Plans: the search for the first time at which a layout commits, trimming, and the full-copy fallback.
-pub mod Search
-pub mod SearchLaws
+-- Plans, and the full-copy fallback.
 pub mod Plans
 pub mod PlanLaws

@@ -38,8 +38,8 @@ use Rattle.times.specs.Times.{shardLength, timesOf, PeersInBounds}
 use Rattle.times.specs.TimeLaws.{times-fit}
 use Rattle.trimming.specs.Order.{trimOrder}
 use Rattle.trimming.specs.TrimmingLaws.{trimmed-length}
-use Rattle.assignment.specs.Search.{candidates, answeredAt, loadsAt, commitsAt, firstTime}
-use Rattle.assignment.specs.SearchLaws.{Answering, answers-means, answered-below, loads-length, First, first-time-means, no-time-means}
+use Rattle.candidates.specs.Search.{candidates, answeredAt, loadsAt, commitsAt, firstTime}
+use Rattle.candidates.specs.SearchLaws.{Answering, answers-means, answered-below, loads-length, First, first-time-means, no-time-means}
 use Rattle.assignment.specs.Plans.{Plan, loadsFor, planAt, planOf, inFlight, pickCases, pickRefusal, pickOf, copiesCases, copiesRefusal, copiesWidth, fullCopiesOf, copiesWritten}
 
 -- ---- what an unrefused input is

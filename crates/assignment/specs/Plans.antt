@@ -18,7 +18,7 @@ use Rattle.times.specs.declared.PeerRecord.{PeerRecord}
 use Rattle.times.specs.Times.{silent, shardLength, timesOf}
 use Rattle.trimming.specs.Order.{trimOrder}
 use Rattle.trimming.specs.Trimming.{trimmed}
-use Rattle.assignment.specs.Search.{answeredAt, loadsAt, firstTime}
+use Rattle.candidates.specs.Search.{answeredAt, loadsAt, firstTime}
 use Rattle.assignment.specs.declared.Pick.{Pick}
 use Rattle.assignment.specs.declared.Pick.the-variants.{Refused, NoPlan, Planned}
 

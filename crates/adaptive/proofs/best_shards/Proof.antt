@@ -2,7 +2,7 @@
 use native.Mathlib.Omega.{arith}
 use borrow.Author.Needs.{needs}
 use Rattle.adaptive.specs.Policy.{bestShards}
-use Rattle.adaptive.proofs.Steps.{best-small, best-le}
+use Rattle.steps.proofs.Steps.{best-small, best-le}
 use Rattle.adaptive.proofs.best_shards.Statement.{statement}
 use Rattle.adaptive.proofs.best_shards.Tie as tie
 

@@ -9,7 +9,7 @@ use lib.ListN.{length}
 use Rattle.lists.specs.Below.{someBelow}
 use Rattle.lists.proofs.BelowLoops.{some-none, some-miss, some-hit, some-spent}
 use Rattle.refusals.specs.Limits.{isOverfull, peersFit}
-use Rattle.adaptive.specs.Steps.{inFlight}
+use Rattle.steps.specs.Steps.{inFlight}
 use Rattle.adaptive.proofs.peers_fit.Statement.{statement}
 use Rattle.adaptive.proofs.peers_fit.Tie as tie
 

@@ -9,7 +9,8 @@ use Rattle.lists.proofs.Lent.{lent, back, back-room, back-lent}
 use Rattle.refusals.specs.Outcome.{Outcome}
 use Rattle.times.specs.TimeLaws.{shard-length-le}
 use Rattle.assignment.specs.Plans.{Plan, planned}
-use Rattle.assignment.proofs.Parts.{begins, pick-refused, tested, table-room, pick-is}
+use Rattle.candidates.proofs.Parts.{begins}
+use Rattle.assignment.proofs.Parts.{pick-refused, tested, table-room, pick-is}
 use Rattle.assignment.proofs.pick_assignment.Statement.{statement}
 use Rattle.assignment.proofs.pick_assignment.Tie as tie
 

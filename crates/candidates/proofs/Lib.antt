@@ -1,0 +1,2 @@
+-- How the code comes to what the definitions say.
+pub mod Parts

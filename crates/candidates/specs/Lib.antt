@@ -1,0 +1,3 @@
+-- The search for the first time at which a layout commits.
+pub mod Search
+pub mod SearchLaws

@@ -1,0 +1,3 @@
+-- The steps of an adaptive choice.
+pub mod Steps
+pub mod StepLaws
