@@ -5,7 +5,7 @@ use mathlib.Core.Bool.{Bool, true, false}
 use mathlib.Core.List.{List, [], _∷_, map}
 use mathlib.Core.Option.{Option, none, some}
 use Prim.Native.Nat.{ℕ}
-use lib.Ieee.{binary64, add, mul, div, ofInt, ofBits}
+use lib.Ieee.{add, mul, div, ofInt, ofBits}
 use lib.ListN.{replicate}
 use Rattle.lists.specs.Below.{someBelow, eachBelow}
 use Rattle.lists.specs.First.{leastUpTo}
@@ -16,6 +16,7 @@ use Rattle.refusals.specs.Outcome.{Outcome, refused, accepted}
 use Rattle.refusals.specs.Limits.{peersFit, isPopulation, isShards, isQuorum}
 use Rattle.times.specs.declared.PerfModel.{PerfModel}
 use Rattle.times.specs.Times.{predictOf}
+use Rattle.times.proofs.Worked.{one, two, ten, model}
 use Rattle.adaptive.specs.Floor.{floorOf, floorRefusal, minShardsOf}
 use Rattle.steps.specs.Steps.{still, peerTimes, stepTime, timeOfStep, bestStep}
 use Rattle.adaptive.specs.Policy.{policyRefusal, bestShards, policyOf, rowsOf}
@@ -79,20 +80,6 @@ lowest l = minShardsOf (l .n) (l .f) (l .d) (l .majority) (l .alive)
 floors-are : map lowest floors ≡ map (λ (l : Floor). l .says) floors
 unfolding floor floors lowest minShardsOf floorRefusal floorOf isPopulation isShards isQuorum count
 floors-are = refl
-
--- ---- floats by their bits
-abbrev one : ℕ
-one = 0x3ff0_0000_0000_0000
-
-abbrev two : ℕ
-two = 0x4000_0000_0000_0000
-
-abbrev ten : ℕ
-ten = 0x4024_0000_0000_0000
-
--- a peer's model, of slope, delay and jitter
-abbrev model : ℕ → ℕ → ℕ → PerfModel
-model slope delay jitter = record { slope = ofBits binary64 slope; delay = ofBits binary64 delay; jitter = ofBits binary64 jitter }
 
 -- ---- tables: an initial layout of three; balanced ones of three replicas and of four, for three counts: the tens tell the count, the units the replica
 abbrev laid : List ℕ

@@ -15,37 +15,19 @@ use Rattle.coverage.specs.Coverage.{unionOf, leaves, isCovered, commits}
 use Rattle.layout.specs.declared.TotalShards.{TotalShards}
 use Rattle.layout.specs.declared.TotalShards.the-variants.{Exactly, AtMost}
 use Rattle.layout.specs.Layout.{widthOf, rowFor, rowsOf, layoutCommits}
-use Rattle.times.specs.declared.Peer.the-variants.{Silent, Heard}
+use Rattle.times.specs.declared.Peer.the-variants.{Silent}
 use Rattle.times.specs.declared.PeerRecord.{PeerRecord}
 use Rattle.times.specs.Times.{predictOf, settled, replyTime, timeAt, shardLength, silent, timesOf}
+use Rattle.times.proofs.Worked.{one, two, three, minusZero, infinity, noNumber}
+use Rattle.times.proofs.Worked as Worked
 use Rattle.trimming.specs.Order.{slower, peersOf, trimOrder}
 use Rattle.trimming.specs.Trimming.{keeps, tried, trimmedIn, trimmed}
 use Rattle.candidates.specs.Search.{runAt, answeredAt, loadsAt, commitsAt, firstTime}
 use Rattle.assignment.specs.Plans.{Plan, loadsFor, planOf, pickRefusal, pickOf, copiesRefusal, fullCopiesOf, copiesWritten}
 
--- ---- floats by their bits
-abbrev one : ℕ
-one = 0x3ff0_0000_0000_0000
-
-abbrev two : ℕ
-two = 0x4000_0000_0000_0000
-
-abbrev three : ℕ
-three = 0x4008_0000_0000_0000
-
-abbrev minusZero : ℕ
-minusZero = 0x8000_0000_0000_0000
-
-abbrev infinity : ℕ
-infinity = 0x7ff0_0000_0000_0000
-
-abbrev noNumber : ℕ
-noNumber = 0x7ff8_0000_0000_0000
-
 -- ---- peers: of slope, delay, jitter, unreliability and bytes in flight
 abbrev heard : ℕ → ℕ → ℕ → ℕ → ℕ → PeerRecord
-heard slope delay jitter unreliability inflight =
-    record { peer = Heard (ofBits binary64 slope) (ofBits binary64 delay) (ofBits binary64 jitter) (ofBits binary64 unreliability); inflight = inflight }
+heard slope delay jitter unreliability inflight = record { peer = Worked.heard slope delay jitter unreliability; inflight = inflight }
 
 abbrev quiet : ℕ → PeerRecord
 quiet inflight = record { peer = Silent; inflight = inflight }

@@ -1,10 +1,11 @@
 -- The search of a plan over the table of times. Assumes nothing.
 use mathlib.Core.Bool.{Bool, cond}
-use mathlib.Core.List.{List, [], _∷_}
+use mathlib.Core.List.{List}
 use mathlib.Core.Option.{Option}
 use Prim.Native.Nat.{ℕ, suc, _-_}
 use lib.Dec.{ltb, eqb}
 use lib.Ieee.{Float, le}
+use Rattle.lists.specs.All.{passing}
 use Rattle.lists.specs.Below.{runOf, eachBelow}
 use Rattle.lists.specs.First.{firstThat}
 use Rattle.lists.specs.Sort.{sortedBy}
@@ -18,8 +19,7 @@ use Rattle.times.specs.Times.{timeIn}
 
 -- all finite times
 abbrev pub candidates : List Float → List Float
-candidates [] = []
-candidates (x ∷ xs) = cond (isFinite x) (x ∷ candidates xs) (candidates xs)
+candidates times = passing isFinite times
 
 -- ---- loads at a time
 

@@ -3,7 +3,7 @@
 use mathlib.Core.Path.{_≡_, refl, sym, ap, subst, _∙_}
 use mathlib.Core.Logic.{_↔_, _⊎_, inl, inr, ⊎-elim}
 use mathlib.Core.Bool.{Bool, true, false, cond, true≢false}
-use mathlib.Core.List.{List, [], _∷_, List·Memᴰ, List·Memᴰ·head, List·Memᴰ·tail, List·Memᴰ·not-nil, List·Memᴰ·cases-cons}
+use mathlib.Core.List.{List, List·Memᴰ}
 use mathlib.Core.Option.{none, some}
 use Prim.Native.Nat.{ℕ, zero, suc, _+_, _-_, _*_, _/_, _%_, _^_, _≤_, _<_}
 use native.Mathlib.Nat.{not-suc-le-zero, zero-lt-suc, mod-lt, div-lt-iff-lt-mul, le-of-suc-le-suc}
@@ -16,6 +16,7 @@ use borrow.Author.Tests.{ltb-true, ltb-false, lt-ltb, eqb-true, eq-eqb, ne-eqb}
 use Rattle.lists.specs.All.{AllOf}
 use Rattle.lists.specs.Below.{eachBelow, runOf}
 use Rattle.lists.specs.BelowLaws.{Run, run-is, each-below-length, each-below-at, each-below-listed}
+use Rattle.lists.specs.ListedLaws.{passing-listed, passing-all-of}
 use Rattle.lists.specs.FirstLaws.{FirstIn, first-means, none-means}
 use Rattle.bitmap.specs.Mask.{bit, hasBit, maskBelow}
 use Rattle.bitmap.specs.WidthLaws.{mask-below-lt, mask-below-bit}
@@ -32,40 +33,11 @@ use Rattle.candidates.specs.Search.{candidates, inTime, runAt, answers, 
 
 -- ---- candidates: the finite times of the table
 
-forth : (x : Float) (times : List Float) → List·Memᴰ x (candidates times) → List·Memᴰ x times × (isFinite x ≡ true)
-forth x [] m = absurd (List·Memᴰ·not-nil m)
-forth x (y ∷ ys) m = go (isFinite y) refl (forth x ys) m
-  where
-    kept : isFinite y ≡ true → (List·Memᴰ x (candidates ys) → List·Memᴰ x ys × (isFinite x ≡ true)) → (x ≡ y) ⊎ List·Memᴰ x (candidates ys) → List·Memᴰ x (y ∷ ys) × (isFinite x ≡ true)
-    kept q ih (inl e) = (List·Memᴰ·head e, ap isFinite e ∙ q)
-    kept q ih (inr r) = let p = ih r in (List·Memᴰ·tail (p .0), p .1)
-
-    go : (b : Bool) → isFinite y ≡ b → (List·Memᴰ x (candidates ys) → List·Memᴰ x ys × (isFinite x ≡ true))
-        → List·Memᴰ x (cond b (y ∷ candidates ys) (candidates ys)) → List·Memᴰ x (y ∷ ys) × (isFinite x ≡ true)
-    go true q ih m = kept q ih (List·Memᴰ·cases-cons m)
-    go false q ih m = let p = ih m in (List·Memᴰ·tail (p .0), p .1)
-
-back : (x : Float) (times : List Float) → List·Memᴰ x times → isFinite x ≡ true → List·Memᴰ x (candidates times)
-back x [] m f = absurd (List·Memᴰ·not-nil m)
-back x (y ∷ ys) m f = go (isFinite y) refl (List·Memᴰ·cases-cons m) (λ r. back x ys r f)
-  where
-    go : (b : Bool) → isFinite y ≡ b → (x ≡ y) ⊎ List·Memᴰ x ys → (List·Memᴰ x ys → List·Memᴰ x (candidates ys))
-        → List·Memᴰ x (cond b (y ∷ candidates ys) (candidates ys))
-    go true q (inl e) ih = List·Memᴰ·head e
-    go true q (inr r) ih = List·Memᴰ·tail (ih r)
-    go false q (inl e) ih = absurd (true≢false (sym f ∙ ap isFinite e ∙ q))
-    go false q (inr r) ih = ih r
-
 pub candidate-means : (x : Float) (times : List Float) → List·Memᴰ x (candidates times) ↔ (List·Memᴰ x times × (isFinite x ≡ true))
-candidate-means x times = (forth x times, λ h. back x times (h .0) (h .1))
+candidate-means = passing-listed isFinite
 
 pub candidates-fit : (times : List Float) → AllOf Fits times → AllOf Fits (candidates times)
-candidates-fit [] a = tt
-candidates-fit (x ∷ xs) a = go (isFinite x) (candidates-fit xs (a .1))
-  where
-    go : (b : Bool) → AllOf Fits (candidates xs) → AllOf Fits (cond b (x ∷ candidates xs) (candidates xs))
-    go true ih = (a .0, ih)
-    go false ih = ih
+candidates-fit = passing-all-of isFinite Fits
 
 -- ---- and so the finite times of some replica with some load
 

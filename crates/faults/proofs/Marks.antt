@@ -1,5 +1,5 @@
 -- The step of `mark_probable`: what a set's test at `next` is by the tests at next + 1. Assumes nothing.
-use Prim.Native.Nat.{ℕ, suc, _+_, _-_, _*_, _/_, _%_, _^_, _<_, _≤_}
+use Prim.Native.Nat.{ℕ, suc, _+_, _*_, _/_, _%_, _^_, _<_, _≤_}
 use native.Mathlib.Nat.{mod-lt, add-comm, one-mul, div-eq-of-lt, pow-suc, lt-of-not-le, mod-eq-of-lt}
 use native.Mathlib.Numerals.{add-one, add-one-le}
 use native.Mathlib.Omega.{arith}

@@ -69,12 +69,15 @@ module _ {A : Type 0} (p : A → Bool) where
   pub passing-listed : (x : A) (xs : List A) → List·Memᴰ x (passing p xs) ↔ (List·Memᴰ x xs × (p x ≡ true))
   passing-listed x xs = (forth x xs, λ h. back x xs (h .1) (h .0))
 
+  pub passing-all-of : (F : A → Type 0) (xs : List A) → AllOf F xs → AllOf F (passing p xs)
+  passing-all-of F xs a = listed-all-of F (passing p xs) (λ y m. all-of-listed F xs a y (forth y xs m .0))
+
   pub passing-distinct : (xs : List A) → Distinct xs → Distinct (passing p xs)
   passing-distinct [] h = tt
   passing-distinct (x ∷ xs) h = go (p x) (passing-distinct xs (h .1))
     where
       go : (b : Bool) → Distinct (passing p xs) → Distinct (cond b (x ∷ passing p xs) (passing p xs))
-      go true ih = (listed-all-of (λ y. y ≡ x → ⊥) (passing p xs) (λ y m. all-of-listed (λ y. y ≡ x → ⊥) xs (h .0) y (forth y xs m .0)), ih)
+      go true ih = (passing-all-of (λ y. y ≡ x → ⊥) xs (h .0), ih)
       go false ih = ih
 
 -- ---- no element twice

@@ -9,33 +9,10 @@ use Rattle.lists.specs.Sort.{lowerBy, upperBy}
 use Rattle.floats.specs.Floats.{totalLe}
 use Rattle.times.specs.declared.PerfModel.{PerfModel}
 use Rattle.times.specs.Times.{predictOf}
+use Rattle.times.proofs.Worked.{one, two, three, minusZero, infinity, minusInfinity, noNumber, model}
 use Rattle.steps.specs.Steps.{peerTimes, stepTime, steps, timeOfStep, bestStep}
 
--- ---- floats by their bits
-abbrev one : ℕ
-one = 0x3ff0_0000_0000_0000
-
-abbrev two : ℕ
-two = 0x4000_0000_0000_0000
-
-abbrev three : ℕ
-three = 0x4008_0000_0000_0000
-
-abbrev minusZero : ℕ
-minusZero = 0x8000_0000_0000_0000
-
-abbrev infinity : ℕ
-infinity = 0x7ff0_0000_0000_0000
-
-abbrev minusInfinity : ℕ
-minusInfinity = 0xfff0_0000_0000_0000
-
-abbrev noNumber : ℕ
-noNumber = 0x7ff8_0000_0000_0000
-
--- ---- models: of slope, delay and jitter
-abbrev model : ℕ → ℕ → ℕ → PerfModel
-model slope delay jitter = record { slope = ofBits binary64 slope; delay = ofBits binary64 delay; jitter = ofBits binary64 jitter }
+-- ---- models
 
 -- of a delay alone
 abbrev flat : ℕ → PerfModel

@@ -7,12 +7,9 @@ use Rattle.lists.specs.Below.{eachBelow}
 use Rattle.floats.specs.Floats.{isFinite}
 use Rattle.times.specs.Times.{predictOf, settled, replyTime, timeAt, shardLength, timesOf}
 use Rattle.times.specs.declared.Peer.{Peer}
-use Rattle.times.specs.declared.Peer.the-variants.{Silent, Heard}
+use Rattle.times.specs.declared.Peer.the-variants.{Silent}
 use Rattle.times.specs.declared.PeerRecord.{PeerRecord}
-
--- the bits of slope, delay, jitter and unreliability
-heard : ℕ → ℕ → ℕ → ℕ → Peer
-heard slope delay jitter unreliability = Heard (ofBits binary64 slope) (ofBits binary64 delay) (ofBits binary64 jitter) (ofBits binary64 unreliability)
+use Rattle.times.proofs.Worked.{heard}
 
 bits : Float → ℕ
 bits t = toBits binary64 t
@@ -29,7 +26,7 @@ line peer x penalty says = record { peer = peer; x = x; penalty = penalty; says 
 
 -- the peer, the bytes, and the bits of the penalty and of the time; a time that is not finite is 0x7ff0_0000_0000_0000
 sheet : List Line
-unfolding line heard
+unfolding line
 sheet =
     -- slope, delay, jitter, unreliability, at the penalty: the bits are others if delay and jitter are swapped or added first, if the penalty's term is added
     -- first or to the jitter, if 1000000 stands for 1048576, if a product is not rounded, or if all is rounded once
@@ -92,7 +89,7 @@ sheet =
     ∷ []
 
 replies : map (λ (l : Line). bits (replyTime (l .peer) (l .x) (ofBits binary64 (l .penalty)))) sheet ≡ map (λ (l : Line). l .says) sheet
-unfolding line heard bits sheet replyTime settled predictOf isFinite add mul div ofInt ofBits toBits
+unfolding line bits sheet replyTime settled predictOf isFinite add mul div ofInt ofBits toBits
 replies = refl
 
 -- ---- shard lengths
@@ -128,12 +125,11 @@ lengths = refl
 
 -- ---- the times of two replicas with no shard and with one of 1048577 bytes, where the first is our own, and where the second is
 records : List PeerRecord
-unfolding heard
 records = record { peer = heard 0x3fe9_9999_9999_999a 0x3ff4_cccc_cccc_cccd 0x3fd9_9999_9999_999a 0x3f84_7ae1_47ae_147b; inflight = 1000 } ∷ record { peer = heard 0x3fd3_3333_3333_3333 0x3fd3_3333_3333_3333 0x3fc9_9999_9999_999a 0x3fec_cccc_cccc_cccd; inflight = 4096 } ∷ []
 
 tables : map (λ (own : ℕ). map bits (timesOf 2 own 1 1048577 records (ofBits binary64 0x4059_1333_3333_3333))) (0 ∷ 1 ∷ [])
     ≡ (0 ∷ 0 ∷ 0x4056_b15a_e147_ae14 ∷ 0x4056_c48e_15ae_147b ∷ [])
     ∷ (0x4005_a14e_76c8_b43a ∷ 0x400c_07b5_4395_8106 ∷ 0 ∷ 0 ∷ [])
     ∷ []
-unfolding heard bits records timesOf eachBelow timeAt replyTime settled predictOf isFinite add mul div ofInt ofBits toBits
+unfolding bits records timesOf eachBelow timeAt replyTime settled predictOf isFinite add mul div ofInt ofBits toBits
 tables = refl
