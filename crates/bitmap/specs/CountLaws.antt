@@ -1,12 +1,12 @@
 -- The laws of counting, at any width. Assumes nothing.
 use mathlib.Core.Path.{_≡_, refl, ap, _∙_}
-use Prim.Native.Nat.{ℕ, zero, suc, _+_, _/_, _%_, _^_, _≤_, _<_}
+use Prim.Native.Nat.{ℕ, zero, suc, _+_, _/_, _%_, _≤_}
 use native.Mathlib.Nat.{le-refl, not-suc-le-zero}
 use native.Mathlib.Omega.{arith}
 use native.Mathlib.Decide.{le-ind}
 use lib.Arith.{bin-ind, half-le}
 use lib.Bits.{bitOr, bitAnd}
-use lib.Count.{ones, ones-step, ones-le}
+use lib.Count.{ones, ones-step}
 use Rattle.bitmap.specs.MaskLaws.{bit-zero, bit-half, or-low, or-half, and-low, and-half, Within}
 use Rattle.bitmap.specs.Mask.{count, countIn}
 
@@ -33,10 +33,6 @@ count-none = refl
 pub count-ones : (m : ℕ) → ones m ≡ count m
 unfolding ones count
 count-ones = bin-ind (λ (n : ℕ). ones n ≡ count n) refl (λ n ih. omega (arith, ih, ones-step n, count-step n))
-
--- a mask of k bits has at most k
-pub count-le : (k m : ℕ) → m < 2 ^ k → count m ≤ k
-count-le k m h = omega (arith, ones-le k m h, count-ones m)
 
 pub count-within : (a b : ℕ) → Within a b → count a ≤ count b
 count-within =

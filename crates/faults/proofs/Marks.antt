@@ -166,11 +166,6 @@ marked-one m t a e j l =
     (λ (o : eqb j m ≡ false). simp o (getD-set-other a m j 1 0 (eqb-false j m o)))
     (either (eqb j m))
 
--- no store
-pub marked-no : (m : ℕ) (t : Bool) (a : List ℕ) → t ≡ false → Marked (λ j. eqb j m && t) a a
-unfolding Marked
-marked-no m t a e j l = rw (e, and-false)
-
 -- What is known where a set gets the replica `next` of n, and L is 2 ^ n and a slice's length: the shift is exact, and the sets are in range
 pub record Room (L next mask : ℕ) : Type 0 where
   pub shift : next < 64
