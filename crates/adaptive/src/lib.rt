@@ -132,7 +132,7 @@ pub fn pick_assignment_policy_rows<'a>(
 }
 
 // The rows of a choice. A part: the table has the count.
-fn rows_of<'a>(
+pub fn rows_of<'a>(
     n: usize,
     d: usize,
     majority: usize,

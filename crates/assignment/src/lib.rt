@@ -71,7 +71,8 @@ pub fn full_copies(n: usize, d: usize, total: TotalShards, rows: &mut [u64]) -> 
     Laid::Width(copies_width(d, total))
 }
 
-fn pick_refusal(
+// The number that refuses a plan, or 0.
+pub fn pick_refusal(
     n: usize,
     own: ReplicaId,
     quorum: usize,

@@ -2,7 +2,7 @@
 ghost use mathlib.Core.Path.{_≡_};
 ghost use Prim.Native.Nat.{_+_, _<_, _≤_};
 ghost use lib.Bits.{bitOr};
-ghost use lib.ListN.{length, replicate};
+ghost use lib.ListN.{length, take, replicate};
 ghost use Rattle.bitmap.specs.Mask.{hasBit, withBit, isBelow, count, run, runModulo};
 
 // The number of a replica. It is wide, so that a number out of range is refused and not cut.
@@ -96,6 +96,18 @@ pub fn fill(row: u64, rows: &mut [u64])
     while s < rows.len() {
         rows[s] = row;
         s += 1;
+    }
+}
+
+// The first words of a table, copied. A part: it has as many.
+pub fn copy(from: &[u64], to: &mut [u64])
+    requires { ⌜ length (now to) ≤ length (now from) ⌝ }
+    ensures { λ _. ⌜ now (to .exit) ≡ take (length (now (to .entry))) (now (from .entry)) ⌝ }
+{
+    let mut i = 0;
+    while i < to.len() {
+        to[i] = from[i];
+        i += 1;
     }
 }
 

@@ -44,7 +44,7 @@ pub fn parse_init_assignment(n: usize, d: usize, total: usize, s: &[u8], rows: &
             if table != 0 {
                 return Init::Refused(table);
             }
-            copy(&words, rows);
+            bitmap::copy(&words, rows);
             Init::Rows
         }
     }
@@ -170,17 +170,5 @@ fn read_segment(n: usize, total: usize, s: &[u8]) -> Segment
             Members::Refused(no) => Segment::Refused(no),
             Members::Mask(m) => Segment::Row(ReplicaId(r), m),
         },
-    }
-}
-
-// The first words of a table, copied. A part: it has as many.
-fn copy(from: &[u64], to: &mut [u64])
-    requires { ⌜ length (now to) ≤ length (now from) ⌝ }
-    ensures { λ _. ⌜ now (to .exit) ≡ take (length (now (to .entry))) (now (from .entry)) ⌝ }
-{
-    let mut i = 0;
-    while i < to.len() {
-        to[i] = from[i];
-        i += 1;
     }
 }

@@ -1,4 +1,4 @@
--- `layout_text::copy` meets its contract. Assumes nothing.
+-- `bitmap::copy` meets its contract. Assumes nothing.
 use mathlib.Core.Path.{_≡_, refl, sym, _∙_}
 use Prim.Native.Nat.{_≤_, _<_, _-_}
 use native.Mathlib.Omega.{arith}
@@ -6,8 +6,8 @@ use native.Mathlib.Numerals.{add-one}
 use borrow.Author.Needs.{needs}
 use lib.ListN.{length, take, getD, length-set}
 use lib.Seq.{take-all, take-suc, take-suc-set}
-use Rattle.layout_text.proofs.copy.Statement.{statement}
-use Rattle.layout_text.proofs.copy.Tie as tie
+use Rattle.bitmap.proofs.copy.Statement.{statement}
+use Rattle.bitmap.proofs.copy.Tie as tie
 
 abbrev Inv-loop : tie.InvT-loop
 Inv-loop from to₀ i₀ to i = (i ≤ length to₀) × (length to ≡ length to₀) × (length to₀ ≤ length from) × (take i to ≡ take i from)

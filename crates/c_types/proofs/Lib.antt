@@ -1,0 +1,2 @@
+-- How the code comes to what the definitions say, and worked values.
+pub mod Records

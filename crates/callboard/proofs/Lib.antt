@@ -1,0 +1,3 @@
+-- How the code comes to what the definitions say, and worked values.
+pub mod Flat
+pub mod Rows
