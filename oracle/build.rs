@@ -166,8 +166,8 @@ impl Build {
     fn load(&mut self, name: &'static str) -> Source {
         let path = self.root.join(name);
         println!("cargo:rerun-if-changed={}", path.display());
-        let mut text =
-            fs::read_to_string(&path).unwrap_or_else(|e| panic!("{}: {e}", path.display()));
+        let mut text = fs::read_to_string(&path)
+            .unwrap_or_else(|e| panic!("{}: {e} (SUMMERSET names its folder)", path.display()));
         if let Some(tests) = text.find("\n#[cfg(test)]\n") {
             text.truncate(tests + 1);
             self.note(name, "left out from the line `#[cfg(test)]` on");

@@ -7,6 +7,8 @@
 mod cases;
 mod convert;
 mod tally;
+#[cfg(test)]
+mod tests;
 
 use std::panic::{self, AssertUnwindSafe};
 
