@@ -50,25 +50,7 @@ impl Tally {
             replica.inflight_bytes.insert(peer, 0);
             replica.pending_accepts.insert(peer, VecDeque::new());
         }
-        replica.insts.push(Instance {
-            bal: ballot,
-            status: Status::Accepting,
-            reqs_cw: RSCodeword::stand_in(d),
-            value_id: Some(value_id),
-            assignment: vec![],
-            voted: None,
-            leader_bk: Some(LeaderBookkeeping {
-                trigger_slot: 0,
-                endprep_slot: 0,
-                prepare_acks: Bitmap::new(n, false),
-                prepare_values: HashMap::new(),
-                accept_acks: HashMap::new(),
-            }),
-            replica_bk: None,
-            external: false,
-            wal_offset: None,
-            prep_inflight: 0,
-        });
+        replica.insts.push(waiting_instance(n, d, ballot, value_id));
         Tally(replica)
     }
 
@@ -111,6 +93,7 @@ impl Tally {
             Reply::Pending
         })
     }
+
     pub(super) fn handle(
         &mut self,
         peer: u8,
@@ -120,5 +103,28 @@ impl Tally {
     ) -> Result<(), SummersetError> {
         let replica = &mut self.0;
         replica.handle_msg_accept_reply(peer, 0, ballot, value_id, shards, None)
+    }
+}
+
+/// An instance that waits for accept replies and has none.
+fn waiting_instance(n: u8, d: u8, ballot: u64, value_id: u128) -> Instance {
+    Instance {
+        bal: ballot,
+        status: Status::Accepting,
+        reqs_cw: RSCodeword::stand_in(d),
+        value_id: Some(value_id),
+        assignment: vec![],
+        voted: None,
+        leader_bk: Some(LeaderBookkeeping {
+            trigger_slot: 0,
+            endprep_slot: 0,
+            prepare_acks: Bitmap::new(n, false),
+            prepare_values: HashMap::new(),
+            accept_acks: HashMap::new(),
+        }),
+        replica_bk: None,
+        external: false,
+        wal_offset: None,
+        prep_inflight: 0,
     }
 }
