@@ -15,7 +15,7 @@ use std::panic::{self, AssertUnwindSafe};
 use super::reliability::ReliabilityProfile;
 use super::stand_ins::CrosswordReplica;
 use super::{PerfModel, SummersetError, assignment};
-use convert::{bitmap, masks_of, rows_of};
+use convert::{masks_of, rows_of};
 
 pub use cases::{CoverCase, FaultCase, GossipCase, PlanCase, PolicyCase, ReplyCase};
 pub use tally::{Reply, Tally};
@@ -221,6 +221,7 @@ pub fn plan_whole(
         let mut replica = CrosswordReplica::stand_in(me, majority, convert::tolerance(n, masks));
         replica.reliability_prof = convert::profile(n, profile);
         replica.config.hb_hear_timeout_min = millis;
+        replica.heartbeater.alive.clear();
         for (p, peer) in (0..n).zip(peers) {
             let model = PerfModel::new(peer.slope, peer.delay, peer.jitter);
             replica.heartbeater.alive.set(p, peer.heard || p == me)?;

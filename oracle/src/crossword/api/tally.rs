@@ -3,7 +3,7 @@
 use std::collections::{HashMap, VecDeque};
 
 use super::super::{Instance, LeaderBookkeeping, Status};
-use super::{CrosswordReplica, Fail, Row, bitmap, convert, guard};
+use super::{CrosswordReplica, Fail, Row, convert, guard};
 use crate::utils::{Bitmap, RSCodeword, SummersetError};
 
 /// A replica that leads and has one instance, at slot 0, which waits for accept replies.
@@ -84,7 +84,7 @@ impl Tally {
         let ignored = self.committed()
             || ballot != self.0.bal_prepared
             || self.0.insts[0].value_id != Some(value_id);
-        guard(|| self.handle(peer, ballot, value_id, &bitmap(w, &shards)))?;
+        guard(|| self.handle(peer, ballot, value_id, &convert::bitmap(w, &shards)))?;
         Ok(if ignored {
             Reply::Ignored
         } else if self.committed() {
