@@ -12,6 +12,9 @@ const FAR: u64 = (1 << 40) + 1;
 /// Fault tolerance 1 in a population of 3.
 const ANY_ONE: [u64; 3] = [0b001, 0b010, 0b100];
 
+/// The number that refuses, and a change to the input that brings it about.
+type Change<T> = (u64, fn(&mut T));
+
 fn profile(n: u64, text: &str) -> Profile {
     parse_profile(n, text.as_bytes()).unwrap()
 }
@@ -231,7 +234,7 @@ fn plans() {
 
 #[test]
 fn plans_refused() {
-    let changes: [(u64, fn(&mut PlanInput)); 5] = [
+    let changes: [Change<PlanInput>; 5] = [
         (3, |input| input.own = 3),
         (5, |input| input.quorum = 4),
         (15, |input| input.inflight = [0, 0, FAR]),
@@ -341,7 +344,7 @@ fn policies() {
 
 #[test]
 fn policies_refused() {
-    let changes: [(u64, fn(&mut PolicyInput)); 11] = [
+    let changes: [Change<PolicyInput>; 11] = [
         (2, |input| input.f = 3),
         (3, |input| input.own = 3),
         (4, |input| input.w = 65),
