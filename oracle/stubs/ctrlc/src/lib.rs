@@ -1,0 +1,1 @@
+stub_error::stub_errors!(Error);

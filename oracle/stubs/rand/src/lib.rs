@@ -1,0 +1,5 @@
+pub mod distr {
+    pub mod uniform {
+        stub_error::stub_errors!(Error);
+    }
+}

@@ -1,0 +1,7 @@
+pub mod ser {
+    stub_error::stub_errors!(Error);
+}
+
+pub mod de {
+    stub_error::stub_errors!(Error);
+}
