@@ -1,27 +1,31 @@
 -- How the parts of the search come to what the definitions say. The premises are the fields of a need's record. Assumes nothing.
 use mathlib.Core.Path.{_≡_, refl, sym, ap, _∙_}
-use mathlib.Core.Bool.{Bool, true, false, not, cond, _&&_}
+use mathlib.Core.Logic.{_⊎_, inl, inr, ⊎-elim}
+use mathlib.Core.Bool.{Bool, true, false, not, cond, _&&_, _||_, and-eq-true-iff}
 use mathlib.Core.List.{List, [], _∷_, foldl}
 use mathlib.Core.Option.{Option, none, some}
-use Prim.Native.Nat.{ℕ, suc, _+_, _-_, _*_, _<_}
-use native.Mathlib.Nat.{le-refl}
+use Prim.Native.Nat.{ℕ, suc, _+_, _-_, _*_, _≤_, _<_}
+use native.Mathlib.Nat.{le-refl, le-of-suc-le-suc, eq-or-lt-of-le}
 use native.Mathlib.Numerals.{add-one}
 use native.Mathlib.Omega.{arith}
-use lib.Ieee.{Float, le}
+use lib.Dec.{leb}
+use lib.Ieee.{Float, nan, le}
 use lib.ListN.{length, getD, take, set}
-use borrow.Author.Tests.{lt-ltb, not-true, not-false}
+use borrow.Author.Tests.{leb-true, lt-ltb, not-true, not-false}
 use Rattle.lists.specs.All.{AllOf}
 use Rattle.lists.specs.First.{firstThat, betterBy}
+use Rattle.lists.specs.FirstLaws.{considered-again, considered-before}
 use Rattle.lists.specs.Sort.{sortedBy}
 use Rattle.lists.specs.Below.{runOf, eachBelow}
 use Rattle.lists.proofs.BelowLoops.{each-more}
 use Rattle.bitmap.specs.Mask.{withBit, maskBelow}
 use Rattle.bitmap.proofs.MaskLoops.{mask-yes, mask-no}
-use Rattle.floats.specs.Floats.{isFinite, totalLe, precedes}
+use Rattle.floats.specs.Floats.{isFinite, totalLe, isSame, precedes}
+use Rattle.floats.specs.OrderLaws.{total, trans, same-means}
 use Rattle.floats.specs.FirstLaws.{Fits, first-is-least, taken-means}
 use Rattle.times.specs.Times.{never}
 use Rattle.times.specs.TimeLaws.{place-within}
-use Rattle.candidates.specs.Search.{runAt, answers, loadAt, candidates}
+use Rattle.candidates.specs.Search.{runAt, answers, loadAt, candidates, repeatsAt, isRepeat}
 use Rattle.candidates.specs.SearchLaws.{candidates-fit, peer-run}
 
 -- ---- `run_at`: the place where a peer's times begin
@@ -105,3 +109,41 @@ module _ (commits : Float → Bool) where
 
   pub least-found : (times : List Float) → AllOf Fits times → foldl step none times ≡ firstThat commits (sortedBy totalLe (candidates times))
   least-found times a = over none times ∙ sym (first-is-least commits (candidates times) (candidates-fit times a))
+
+  -- ---- the times that have been considered: each of them changes nothing when it is considered again
+  module _ (times : List Float) where
+    abbrev pub Settled : Option Float → ℕ → Type 0
+    Settled b i = (j : ℕ) → j < i → step b (getD times j nan) ≡ b
+
+    pub more-settled : (b : Option Float) (i : ℕ) → Settled b i → Settled (step b (getD times i nan)) (i + 1)
+    more-settled b i s j h = ⊎-elim (λ e. again (sym e)) (λ l. before l) (eq-or-lt-of-le (le-of-suc-le-suc k))
+      where
+        k : suc j ≤ suc i
+        k = omega arith
+
+        passes : Float → Bool
+        passes x = isFinite x && commits x
+
+        again : i ≡ j → step (step b (getD times i nan)) (getD times j nan) ≡ step b (getD times i nan)
+        again e = rw (sym e) (considered-again totalLe total trans passes b (getD times i nan))
+
+        before : j < i → step (step b (getD times i nan)) (getD times j nan) ≡ step b (getD times i nan)
+        before l = considered-before totalLe total trans passes b (getD times i nan) (getD times j nan) (s j l)
+
+    module _ (fit : (i : ℕ) → i < length times → Fits (getD times i nan)) (b : Option Float) (i : ℕ) (inside : i < length times) (s : Settled b i) where
+      repeated-at : (back : ℕ) → 0 < back → repeatsAt times back i ≡ true → step b (getD times i nan) ≡ b
+      repeated-at back p e =
+          let q = and-eq-true-iff (leb back i) (isSame (getD times (i - back) nan) (getD times i nan)) .0 e in
+          let l = leb-true back i (q .0) in
+          let j : i - back < i = omega arith in
+          let m = same-means (getD times (i - back) nan) (getD times i nan) (fit (i - back) (omega arith)) (fit i inside) (q .1) in
+          rw (sym m) (s (i - back) j)
+
+      -- a repeat changes nothing
+      pub repeated : (d : ℕ) → isRepeat d times i ≡ true → b ≡ step b (getD times i nan)
+      repeated d e =
+          sym (⊎-elim (λ u. repeated-at 1 (omega arith) u) (λ u. ⊎-elim (λ v. repeated-at (suc d) (omega arith) v) (λ v. repeated-at (2 * suc d) (omega arith) v) (either _ _ u)) (either _ _ e))
+        where
+          either : (x y : Bool) → (x || y) ≡ true → (x ≡ true) ⊎ (y ≡ true)
+          either true y h = inl refl
+          either false y h = inr h

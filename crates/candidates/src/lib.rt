@@ -9,12 +9,12 @@ ghost use Rattle.lists.specs.First.{betterBy};
 ghost use Rattle.floats.specs.Floats.{isFinite, totalLe, found};
 ghost use Rattle.layout.specs.Layout.{Fit, bound};
 ghost use Rattle.times.specs.Times.{never};
-ghost use Rattle.candidates.specs.Search.{runAt, answeredAt, loadsAt, commitsAt, firstTime};
+ghost use Rattle.candidates.specs.Search.{runAt, answeredAt, loadsAt, commitsAt, firstTime, repeatsAt, isRepeat};
 use bitmap::ReplicaId;
 use floats::Found;
 use layout::TotalShards;
 
-// The first candidate in total order that commits. One pass serves: a candidate is tested only if it stands before the best so far.
+// The first candidate in total order that commits. One pass serves: a candidate is tested only if it stands before the best so far and is no repeat.
 pub fn first_time(
     n: usize,
     own: ReplicaId,
@@ -30,10 +30,37 @@ pub fn first_time(
     let mut best = Found::Nothing;
     let mut i = 0;
     while i < times.len() {
-        best = consider(n, own, quorum, d, total, faults, times, best, times[i]);
+        if !is_repeat(d, times, i) {
+            best = consider(n, own, quorum, d, total, faults, times, best, times[i]);
+        }
         i += 1;
     }
     best
+}
+
+// Whether the time stands also one place before, or at the same load one or two replicas before. Our own times are all equal, and so are those of equal peers.
+fn is_repeat(d: usize, times: &[f64], i: usize) -> bool
+    requires { ⌜ (d ≤ 64) × (i < length (now times)) ⌝ }
+    ensures { λ r. ⌜ r ≡ isRepeat d (now (times .entry)) i ⌝ }
+{
+    if repeats(times, 1, i) {
+        return true;
+    }
+    if repeats(times, d + 1, i) {
+        return true;
+    }
+    repeats(times, 2 * (d + 1), i)
+}
+
+// Whether the time so many places before is the same.
+fn repeats(times: &[f64], back: usize, i: usize) -> bool
+    requires { ⌜ i < length (now times) ⌝ }
+    ensures { λ r. ⌜ r ≡ repeatsAt (now (times .entry)) back i ⌝ }
+{
+    if i < back {
+        return false;
+    }
+    floats::same(times[i - back], times[i])
 }
 
 // The better of what was found and x, if x is a candidate that commits.

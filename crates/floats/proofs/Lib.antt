@@ -2,3 +2,4 @@
 pub mod Compare
 pub mod Shrink
 pub mod Examples
+pub mod Finite

@@ -41,6 +41,10 @@ totalLe (fin s m e) nan = true
 totalLe (fin s m e) (inf t) = not t
 totalLe (fin s m e) (fin t n d) = signedLe s (m * up e * down d) t (n * up d * down e)
 
+-- at one place of it
+unfoldable pub isSame : Float → Float → Bool
+isSame a b = totalLe a b && totalLe b a
+
 -- The larger of two in total order, so that zeros of opposite sign give +0; a NaN second is ignored.
 unfoldable pub larger : Float → Float → Float
 larger a b = cond (isNan b) a (cond (totalLe a b) b a)

@@ -1,7 +1,7 @@
 -- Total order is total, transitive and, on values that fit, antisymmetric; it agrees with `<=` on numbers. Assumes nothing.
 use mathlib.Core.Logic.{_⊎_, inl, inr}
 use mathlib.Core.Path.{_≡_, refl, sym, ap, subst, _∙_}
-use mathlib.Core.Bool.{Bool, true, false, cond, true≢false}
+use mathlib.Core.Bool.{Bool, true, false, cond, and-eq-true-iff, true≢false}
 use Prim.Native.Nat.{ℕ, _+_, _-_, _*_, _/_, _^_, _<_}
 use native.Mathlib.Nat.{le-of-lt, le-antisymm, mul-right-comm}
 use lib.IntN.{ℤ}
@@ -13,7 +13,7 @@ use lib.Ieee.Bits.{ofBits-toBits}
 use lib.Ieee.Positive.{through}
 use borrow.Author.Tests.{leb-true, leb-false, le-leb}
 use Rattle.floats.specs.NumberLaws.{AtMost, number, test, holds, zero-eq}
-use Rattle.floats.specs.Floats.{plusZero, signedLe, totalLe}
+use Rattle.floats.specs.Floats.{plusZero, signedLe, totalLe, isSame}
 
 no : {X : Type 0} → false ≡ true → X
 no p = absurd (true≢false (sym p))
@@ -121,6 +121,11 @@ signed-number true a false b h = tt
 signed-number true a true b h = leb-true b a h
 
 -- what is at most y in total order is at most y as a number
+-- two doubles at one place of the order are one
+pub same-means : (x y : Float) → T (fits binary64 x) → T (fits binary64 y) → isSame x y ≡ true → x ≡ y
+unfolding isSame
+same-means x y f g e = let p = and-eq-true-iff (totalLe x y) (totalLe y x) .0 e in antisym x y f g (p .0) (p .1)
+
 pub total-number : (x y : Float) → isNan y ≡ false → totalLe x y ≡ true → le x y ≡ true
 unfolding totalLe le isNan
 total-number x nan w h = no' w

@@ -15,6 +15,45 @@ use Rattle.lists.specs.Sort.{lowerBy, upperBy, insertBy, sortOntoBy, sor
 use Rattle.lists.specs.First.{firstThat, betterBy, leastThat, leastUpTo}
 use Rattle.lists.specs.SortLaws.{parted, reflexive, AtLeast, Ordered, insert-ordered, sorted-ordered, sorted-listed}
 
+-- ---- what was considered once changes nothing when it is considered again
+module _ {A : Type 0} (le : A → A → Bool) (total : (x y : A) → le x y ≡ false → le y x ≡ true) (trans : (x y z : A) → le x y ≡ true → le y z ≡ true → le x z ≡ true)
+    (t : A → Bool) where
+  abbrev considering : Option A → A → Option A
+  considering b x = cond (t x) (betterBy le b x) b
+
+  pub considered-again : (b : Option A) (x : A) → considering (considering b x) x ≡ considering b x
+  considered-again b x = go (t x) b
+    where
+      either : (v : Bool) → cond v (some x) (some x) ≡ some x
+      either true = refl
+      either false = refl
+
+      found : (c : A) (v : Bool) → le c x ≡ v → betterBy le (cond v (some c) (some x)) x ≡ cond v (some c) (some x)
+      found c true e = rw e
+      found c false e = either (le x x)
+
+      go : (v : Bool) (b : Option A) → cond v (betterBy le (cond v (betterBy le b x) b) x) (cond v (betterBy le b x) b) ≡ cond v (betterBy le b x) b
+      go true none = either (le x x)
+      go true (some c) = found c (le c x) refl
+      go false b = refl
+
+  pub considered-before : (b : Option A) (x y : A) → considering b y ≡ b → considering (considering b x) y ≡ considering b x
+  considered-before b x y e = go (t y) (t x) b e
+    where
+      at-most : (c : A) (v : Bool) → le c y ≡ v → cond v (some c) (some y) ≡ some c → le c y ≡ true
+      at-most c true q h = q
+      at-most c false q h = let z : y ≡ c = Option·some-injective y c h in absurd (true≢false (sym (total c y q) ∙ ap (λ (u : A). le u c) z ∙ ap (le c) (sym z) ∙ q))
+
+      moved : (c : A) (v : Bool) → le c x ≡ v → le c y ≡ true → betterBy le (cond v (some c) (some x)) y ≡ cond v (some c) (some x)
+      moved c true q h = rw h
+      moved c false q h = rw (trans x c y (total c x q) h)
+
+      go : (v w : Bool) (b : Option A) → cond v (betterBy le b y) b ≡ b → cond v (betterBy le (cond w (betterBy le b x) b) y) (cond w (betterBy le b x) b) ≡ cond w (betterBy le b x) b
+      go false w b h = refl
+      go true w none h = absurd (Option·some-ne-none y h)
+      go true true (some c) h = moved c (le c x) refl (at-most c (le c y) refl h)
+      go true false (some c) h = h
+
 -- an order that is total and transitive, and that tells any two elements apart of which F holds
 module _ {A : Type 0} (le : A → A → Bool) (total : (x y : A) → le x y ≡ false → le y x ≡ true) (trans : (x y z : A) → le x y ≡ true → le y z ≡ true → le x z ≡ true)
     (F : A → Type 0) (antisym : (x y : A) → F x → F y → le x y ≡ true → le y x ≡ true → x ≡ y) where

@@ -23,14 +23,10 @@ pub flagged-off : (t : List ℕ) (m : ℕ) → getD t m 0 ≡ 0 → flagged t m 
 unfolding flagged
 flagged-off t m h = rw (eq-eqb (getD t m 0) 0 h)
 
--- a flag v that says whether b holds
-pub flag-on : (b : Bool) (v : ℕ) → v ≡ cond b 1 0 → (v ≡ 0 → ⊥) → b ≡ true
-flag-on true v e h = refl
-flag-on false v e h = absurd (h e)
-
-pub flag-off : (b : Bool) (v : ℕ) → v ≡ cond b 1 0 → v ≡ 0 → b ≡ false
-flag-off true v e h = absurd (omega arith)
-flag-off false v e h = refl
+-- a flag that says whether b holds is set exactly if it does
+pub flag-of : (t : List ℕ) (m : ℕ) (b : Bool) → getD t m 0 ≡ cond b 1 0 → flagged t m ≡ b
+flag-of t m true e = flagged-on t m (λ z. omega arith)
+flag-of t m false e = flagged-off t m e
 
 -- ---- `is_maximal`
 module _ (table over : List ℕ) (n m : ℕ) where

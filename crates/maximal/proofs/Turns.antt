@@ -1,22 +1,25 @@
 -- A turn of `above`: what the tables say of m with the member b. The premises of each law are the fields of a need's record, so that `search` finds them.
 -- Assumes nothing.
-use Prim.Native.Nat.{ℕ, _+_, _*_, _%_, _^_, _<_, _≤_}
+use Prim.Native.Nat.{ℕ, zero, suc, _+_, _-_, _*_, _%_, _^_, _<_, _≤_}
 use native.Mathlib.Omega.{arith}
 use native.Mathlib.Nat.{lt-of-not-le}
-use mathlib.Core.Path.{_≡_}
-use mathlib.Core.Bool.{cond}
+use mathlib.Core.Path.{_≡_, refl, sym, ap, _∙_}
+use mathlib.Core.Bool.{Bool, true, false, cond, _&&_, _||_, true≢false}
 use mathlib.Core.List.{List}
 use borrow.Author.Count.{below-more}
+use borrow.Author.Tests.{eqb-true, eqb-false}
+use lib.Dec.{eqb}
 use lib.ListN.{length, getD}
 use lib.Pow.{pow-mono, pow-pos}
 use Rattle.bitmap.specs.Mask.{bit}
+use Rattle.bitmap.specs.MaskLaws.{bit-lt}
 use Rattle.bitmap.proofs.Words.{one-shl}
 use Rattle.maximal.specs.Maximal.{isCoveredBy}
-use Rattle.maximal.specs.Tables.{flagged, Covers}
-use Rattle.maximal.proofs.Flags.{flagged-on, flagged-off, flag-on, flag-off}
+use Rattle.maximal.specs.Tables.{flagged, Covers, isShown}
+use Rattle.maximal.proofs.Flags.{flag-of}
 use Rattle.maximal.proofs.Supersets.{Unseen, more-lt, covered-here, covered-further, uncovered}
 
--- ---- the set m + (1 << b). A slice has 2 ^ n flags, so n is below 64
+-- ---- the set m + (1 << b), or m where it has the member b. A slice has 2 ^ n flags, so n is below 64
 module _ (table : List ℕ) (n b : ℕ) (size : length table ≡ 2 ^ n) (fits : length table < 2 ^ 64) (inside : b < n) where
   pub in-word : b < 64
   in-word =
@@ -26,39 +29,66 @@ module _ (table : List ℕ) (n b : ℕ) (size : length table ≡ 2 ^ n) (fits : 
   shift : 1 * 2 ^ b % 2 ^ 64 ≡ 2 ^ b
   shift = one-shl 64 b in-word
 
-  pub in-table : (m : ℕ) → m < 2 ^ n → bit m b ≡ 0 → m + 1 * 2 ^ b % 2 ^ 64 < length table
-  in-table m l z = rw (shift, size) (more-lt m b z n inside l)
+  module _ (m : ℕ) (small : m < 2 ^ n) where
+    abbrev place : ℕ
+    place = m + (1 - bit m b) * (1 * 2 ^ b % 2 ^ 64)
 
-  pub no-wrap : (m : ℕ) → m < 2 ^ n → bit m b ≡ 0 → m + 1 * 2 ^ b % 2 ^ 64 < 2 ^ 64
-  no-wrap m l z = omega (arith, in-table m l z)
+    lacking : bit m b ≡ 0 → place ≡ m + 2 ^ b
+    lacking z = rw (z, shift) (omega arith)
 
-module _ (table over : List ℕ) (n m b : ℕ) (size : length table ≡ 2 ^ n) (fits : length table < 2 ^ 64) (small : m < 2 ^ n) where
-  told : Covers n table over (m + 1) → b < n → bit m b ≡ 0 → getD over (m + 2 ^ b) 0 ≡ cond (isCoveredBy (flagged table) n (m + 2 ^ b)) 1 0
-  unfolding Covers
-  told k h z = k (m + 2 ^ b) (omega (arith, pow-pos b)) (omega (arith, more-lt m b z n h small))
+    having : bit m b ≡ 1 → place ≡ m
+    having z = rw z (omega arith)
 
-  -- ---- it is in the family, or covered
-  pub here : b < n → bit m b ≡ 0 → (getD table (m + 1 * 2 ^ b % 2 ^ 64) 0 ≡ 0 → ⊥) → _≡_ {A = ℕ} 1 (cond (isCoveredBy (flagged table) n m) 1 0)
-  here h z =
-      rw (shift table n b size fits h) (λ f. rw (covered-here (flagged table) n m b z (more-lt m b z n h small) (flagged-on table (m + 2 ^ b) f)))
+    pub in-table : place < length table
+    in-table = go (bit m b) refl (bit-lt m b)
+      where
+        go : (k : ℕ) → bit m b ≡ k → k < 2 → place < length table
+        go zero e h = omega (arith, lacking e, more-lt m b e n inside small, size)
+        go (suc k) e h = omega (arith, having (omega arith), size)
 
-  pub further :
-      Covers n table over (m + 1) → b < n → bit m b ≡ 0 → (getD over (m + 1 * 2 ^ b % 2 ^ 64) 0 ≡ 0 → ⊥)
-      → _≡_ {A = ℕ} 1 (cond (isCoveredBy (flagged table) n m) 1 0)
-  further k h z =
-      rw (shift table n b size fits h) (λ f. rw (covered-further (flagged table) n m b z (flag-on (isCoveredBy (flagged table) n (m + 2 ^ b)) (getD over (m + 2 ^ b) 0) (told k h z) f)))
+    pub no-wrap : place < 2 ^ 64
+    no-wrap = omega (arith, in-table)
 
-  -- ---- it shows nothing: m has the member, or neither flag is set
-  pub has : Unseen (flagged table) n m b → (bit m b ≡ 0 → ⊥) → Unseen (flagged table) n m (b + 1)
-  has u f = below-more _ b u (λ z. absurd (f z))
+    pub no-overflow : (1 - bit m b) * (1 * 2 ^ b % 2 ^ 64) < 2 ^ 64
+    no-overflow = omega (arith, no-wrap)
 
-  pub past :
-      Unseen (flagged table) n m b → Covers n table over (m + 1) → b < n → getD table (m + 1 * 2 ^ b % 2 ^ 64) 0 ≡ 0
-      → getD over (m + 1 * 2 ^ b % 2 ^ 64) 0 ≡ 0 → Unseen (flagged table) n m (b + 1)
-  past u k h =
-      rw (shift table n b size fits h)
-      (λ f o.
-      below-more _ b u (λ z. (flagged-off table (m + 2 ^ b) f, flag-off (isCoveredBy (flagged table) n (m + 2 ^ b)) (getD over (m + 2 ^ b) 0) (told k h z) o)))
+    -- what the code computes is what is shown
+    pub shown-by : (over : List ℕ) → (eqb (1 - bit m b) 1 && (flagged table place || flagged over place)) ≡ isShown table over m b
+    shown-by over = go (bit m b) refl (bit-lt m b)
+      where
+        go : (k : ℕ) → bit m b ≡ k → k < 2 → (eqb (1 - bit m b) 1 && (flagged table place || flagged over place)) ≡ isShown table over m b
+        go zero e h = rw (lacking e) (rw e refl)
+        go (suc k) e h = let o : bit m b ≡ 1 = omega arith in rw o refl
 
-  pub done : n ≤ b → Unseen (flagged table) n m b → _≡_ {A = ℕ} 0 (cond (isCoveredBy (flagged table) n m) 1 0)
-  done h u = rw (uncovered (flagged table) n m small (λ k l z. u k (omega arith) z))
+-- ---- what has been seen of the members below b: m is covered, or nothing
+module _ (table : List ℕ) (n m : ℕ) where
+  abbrev pub Seen : Bool → ℕ → Type 0
+  Seen true b = isCoveredBy (flagged table) n m ≡ true
+  Seen false b = Unseen (flagged table) n m b
+
+  module _ (over : List ℕ) (size : length table ≡ 2 ^ n) (small : m < 2 ^ n) (told : Covers n table over (m + 1)) where
+    further : (b : ℕ) → b < n → bit m b ≡ 0 → flagged over (m + 2 ^ b) ≡ isCoveredBy (flagged table) n (m + 2 ^ b)
+    unfolding Covers
+    further b h z = flag-of over (m + 2 ^ b) _ (told (m + 2 ^ b) (omega (arith, pow-pos b)) (omega (arith, more-lt m b z n h small, size)))
+
+    pub seen-more : (seen r : Bool) (b : ℕ) → b < n → Seen seen b → r ≡ isShown table over m b → Seen (seen || r) (b + 1)
+    seen-more true r b h s e = s
+    seen-more false r b h s e = go (eqb (bit m b) 0) refl (flagged table (m + 2 ^ b)) refl (flagged over (m + 2 ^ b)) refl e
+      where
+        go : (z : Bool) → eqb (bit m b) 0 ≡ z → (f : Bool) → flagged table (m + 2 ^ b) ≡ f → (o : Bool) → flagged over (m + 2 ^ b) ≡ o → r ≡ (z && (f || o)) → Seen r (b + 1)
+        go false z f p o q e = rw e (below-more _ b s (λ l. absurd (eqb-false (bit m b) 0 z l)))
+        go true z true p o q e =
+            let l = eqb-true (bit m b) 0 z in
+            rw e (covered-here (flagged table) n m b l (more-lt m b l n h small) p)
+        go true z false p true q e =
+            let l = eqb-true (bit m b) 0 z in
+            rw e (covered-further (flagged table) n m b l (sym (further b h l) ∙ q))
+        go true z false p false q e = rw e (below-more _ b s (λ l. (p, sym (further b h l) ∙ q)))
+
+  pub seen-yes : (seen : Bool) (b : ℕ) → Seen seen b → seen ≡ true → _≡_ {A = ℕ} 1 (cond (isCoveredBy (flagged table) n m) 1 0)
+  seen-yes true b s e = rw s
+  seen-yes false b s e = absurd (true≢false (sym e))
+
+  pub seen-no : m < 2 ^ n → (seen : Bool) (b : ℕ) → n ≤ b → Seen seen b → seen ≡ false → _≡_ {A = ℕ} 0 (cond (isCoveredBy (flagged table) n m) 1 0)
+  seen-no small true b h s e = absurd (true≢false e)
+  seen-no small false b h s e = rw (uncovered (flagged table) n m small (λ k l z. s k (omega arith) z))

@@ -5,7 +5,7 @@ ghost use Prim.Native.Nat.{_+_, _^_, _<_, _≤_};
 ghost use lib.ListN.{length};
 ghost use Rattle.lists.specs.Below.{front};
 ghost use Rattle.maximal.specs.Maximal.{isCoveredBy, isMaximal, maximals};
-ghost use Rattle.maximal.specs.Tables.{flagged, Covers};
+ghost use Rattle.maximal.specs.Tables.{flagged, Covers, isShown};
 
 // Says of each set, in `over`, whether some proper superset of it is in the family, from the largest mask down. A part: both tables have 2^n flags.
 pub fn cover(table: &[u8], over: &mut [u8], n: usize)
@@ -80,18 +80,27 @@ fn above(table: &[u8], over: &[u8], n: usize, m: usize) -> u8
     requires { ⌜ Covers n (now table) (now over) (m + 1) ⌝ }
     ensures { λ r. ⌜ r ≡ cond (isCoveredBy (flagged (now (table .entry))) n m) 1 0 ⌝ }
 {
+    let mut seen = false;
     let mut b: usize = 0;
     while b < n {
-        if (m >> b) % 2 == 0 {
-            let s = m + (1usize << b);
-            if table[s] != 0 {
-                return 1;
-            }
-            if over[s] != 0 {
-                return 1;
-            }
-        }
+        seen = seen | shows(table, over, n, m, b);
         b += 1;
     }
+    if seen {
+        return 1;
+    }
     0
+}
+
+// Whether m lacks the member b, and with it is in the family or covered. No branch: which way one would go can't be foreseen.
+fn shows(table: &[u8], over: &[u8], n: usize, m: usize, b: usize) -> bool
+    requires { ⌜ length (now table) ≡ 2 ^ n ⌝ }
+    requires { ⌜ length (now over) ≡ 2 ^ n ⌝ }
+    requires { ⌜ m < 2 ^ n ⌝ }
+    requires { ⌜ b < n ⌝ }
+    ensures { λ r. ⌜ r ≡ isShown (now (table .entry)) (now (over .entry)) m b ⌝ }
+{
+    let lacks = 1 - (m >> b) % 2;
+    let s = m + lacks * (1usize << b);
+    (lacks == 1) & ((table[s] != 0) | (over[s] != 0))
 }
