@@ -1,0 +1,3 @@
+//! differences: the listed differences, each by its smallest input on both sides.
+
+fn main() {}
