@@ -100,7 +100,6 @@ impl Entry for Plan {
     const ANSWERS: &'static [&'static str] = &["a plan", "none"];
     const REFUSALS: &'static [u64] = &[1, 3, 4, 5, 15, 16, 17];
     const FIELDS: usize = 3;
-    const ONE_IN: u64 = 4;
 
     fn fixed() -> Vec<Input> {
         let sheet = |heard, faults: &[u64]| Input {
@@ -138,17 +137,17 @@ impl Entry for Plan {
 
     fn random(rng: &mut Rng) -> Input {
         let n = population(rng);
-        let (d, w) = shards(rng);
+        let (d, w) = match (n > 9, rng.below(16)) {
+            (false, _) => shards(rng),
+            (true, 0) => (rng.within(1..=64), 64),
+            _ => (rng.within(1..=8), rng.within(8..=64)),
+        };
         let odd = rng.once_in(3);
         let mut input = Input {
             n,
             own: rng.below(n),
             quorum: rng.within(1..=n),
-            d: if n > 9 && !rng.once_in(16) {
-                d.min(8)
-            } else {
-                d
-            },
+            d,
             total: total(rng, w),
             size: bytes(rng, 1 << 30),
             penalty: model::<1>(rng, odd)[0],

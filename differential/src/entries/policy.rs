@@ -88,13 +88,17 @@ impl Input {
         &self.table[from as usize..][..self.n as usize]
     }
 
+    /// "load (size / d, rounded down, + 1) × those shards"
+    fn load(&self, step: u64) -> usize {
+        let count = (step + 1) * (self.d / self.majority);
+        ((self.size / self.d + 1) * count) as usize
+    }
+
     /// The time of a step by its order of floats: "the (q - 1)-th least in total order counts,
     /// infinity if missing, 0 if q is below 2".
     fn step_time(&self, step: u64, order: fn(&f64, &f64) -> Ordering) -> f64 {
-        let count = (step + 1) * (self.d / self.majority);
-        let load = (self.size / self.d + 1) * count;
-        let time =
-            |&(_, m, b): &(u8, [f64; 3], usize)| api::predict(m[0], m[1], m[2], b + load as usize);
+        let load = self.load(step);
+        let time = |&(_, m, b): &(u8, [f64; 3], usize)| api::predict(m[0], m[1], m[2], b + load);
         let mut times: Vec<f64> = self.peers().iter().map(time).collect();
         times.sort_by(order);
         match (self.majority + self.f - step).checked_sub(2) {
@@ -119,11 +123,26 @@ impl Input {
         (self.balanced && has).then_some(count)
     }
 
-    /// A difference from the Rust that its sign of NaNs or its floor in a byte makes.
-    fn listed(&self) -> Option<(&'static str, Option<u64>, Option<u64>)> {
+    /// Whether some time is a sum of two NaNs: which of them it is differs from build to build, so
+    /// that the Rust's order of times is open.
+    fn is_open(&self) -> bool {
+        let open = |&(_, [slope, delay, jitter], b): &(u8, [f64; 3], usize), load| {
+            let is_nan = |slope, delay| api::predict(slope, delay, 0.0, b + load).is_nan();
+            (is_nan(slope, 0.0) && delay.is_nan()) || (is_nan(slope, delay) && jitter.is_nan())
+        };
+        let peers = self.peers();
+        (0..self.majority).any(|step| peers.iter().any(|p| open(p, self.load(step))))
+    }
+
+    /// A difference from the Rust, whose choice is given: by its order of NaNs, or by its floor in
+    /// a byte. The name, the Rust's choice and the port's.
+    fn listed(&self, told: Option<u64>) -> Option<(&'static str, Option<u64>, Option<u64>)> {
         let floors = [floor::in_a_byte, floor::whole]
             .map(|floor| floor(self.f, self.d, self.majority, self.alive));
-        let rust = self.chosen(f64::total_cmp, floors[0]);
+        let rust = match self.is_open() {
+            true => told,
+            false => self.chosen(f64::total_cmp, floors[0]),
+        };
         let port = self.chosen(nans_above, floors[1]);
         let name = if floors[0] == floors[1] {
             NANS
@@ -221,7 +240,7 @@ fn told(i: &Input, choice: Option<u64>, answer: impl Fn(Option<u64>) -> Answer) 
     };
     let mut told = Told::new(answer(choice), class);
     if document::policy(i).is_ok() {
-        told.listed = i.listed().map(|(name, rust, port)| Listed {
+        told.listed = i.listed(choice).map(|(name, rust, port)| Listed {
             name,
             rust: answer(rust),
             port: answer(port),
@@ -280,10 +299,10 @@ fn small_of(n: u64, k: &[u64]) -> Input {
 fn random(rng: &mut Rng) -> Input {
     let n = population(rng);
     let majority = rng.within(1..=n);
-    let d = if rng.once_in(8) {
-        multiple(rng, majority)
-    } else {
-        majority * rng.within(1..=64 / majority).min(3)
+    let d = match rng.below(8) {
+        0 => 64 / majority * majority,
+        1 => multiple(rng, majority),
+        _ => multiple(rng, majority).min(3 * majority),
     };
     let w = rng.within(d..=64);
     let counts = d - d / majority + 1;
@@ -301,7 +320,7 @@ fn random(rng: &mut Rng) -> Input {
         balanced: !rng.once_in(6),
         models: (0..n).map(|_| model(rng, odd)).collect(),
         inflight: (0..n).map(|_| bytes(rng, 1 << 40)).collect(),
-        alive: set(rng, n) | set(rng, n),
+        alive: set(rng, n) | rng.pick(&[0, low(n)]) & set(rng, n),
         init: (0..n).map(|_| set(rng, d)).collect(),
         table: (0..rows).map(|_| set(rng, w)).collect(),
         room: n as usize,
