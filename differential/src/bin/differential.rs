@@ -1,9 +1,10 @@
-//! differential [--seed S] [--cases N]: the port beside the Rust, entry by entry. N is the number
-//! of random cases an entry; those of the small spaces come on top. It fails at the first
+//! differential [--seed S] [--cases N] [--entry NAME]: the port beside the Rust, entry by entry, or
+//! one of them. N is the number of random cases an entry; those of the small spaces come on top. It fails at the first
 //! disagreement, and if an outcome that document 01 says is possible has no case.
 
 use std::env;
 use std::error::Error;
+use std::panic::{self, AssertUnwindSafe};
 use std::time::Instant;
 
 use differential::entries::covers::Covers;
@@ -23,24 +24,29 @@ use differential::entry::{Entry, check};
 use differential::report::Report;
 use differential::rng::Rng;
 
+const USAGE: &str = "differential [--seed S] [--cases N] [--entry NAME]";
+
 /// What is asked for on the command line.
 struct Args {
     seed: u64,
     cases: u64,
+    entry: Option<String>,
 }
 
 fn args() -> Result<Args, Box<dyn Error>> {
     let mut args = Args {
         seed: 1,
         cases: 100_000,
+        entry: None,
     };
     let mut words = env::args().skip(1);
     while let Some(flag) = words.next() {
-        let number = words.next().ok_or("a number is missing")?.parse()?;
+        let word = words.next().ok_or(USAGE)?;
         match flag.as_str() {
-            "--seed" => args.seed = number,
-            "--cases" => args.cases = number,
-            _ => return Err("differential [--seed S] [--cases N]".into()),
+            "--seed" => args.seed = word.parse()?,
+            "--cases" => args.cases = word.parse()?,
+            "--entry" => args.entry = Some(word),
+            _ => return Err(USAGE.into()),
         }
     }
     Ok(args)
@@ -48,7 +54,8 @@ fn args() -> Result<Args, Box<dyn Error>> {
 
 /// Runs a case and counts it.
 fn case<E: Entry>(input: &E::Input, report: &mut Report) -> Result<(), String> {
-    match check::<E>(input) {
+    let checked = panic::catch_unwind(AssertUnwindSafe(|| check::<E>(input)));
+    match checked.unwrap_or(Err("a panic outside the Rust".into())) {
         Ok(outcomes) => report.add(&outcomes),
         Err(why) => {
             let request = E::request(input).unwrap_or_default();
@@ -60,6 +67,9 @@ fn case<E: Entry>(input: &E::Input, report: &mut Report) -> Result<(), String> {
 
 /// Runs an entry; the number of its cases.
 fn run<E: Entry>(args: &Args) -> Result<u64, String> {
+    if args.entry.as_ref().is_some_and(|name| name != E::NAME) {
+        return Ok(0);
+    }
     let (start, mut report) = (Instant::now(), Report::default());
     for input in E::fixed() {
         case::<E>(&input, &mut report)?;

@@ -27,11 +27,10 @@ fn in_order(i: &Input, list: &[u64]) -> Answer {
     Answer::lent(vec![list.len() as u64], lent)
 }
 
-/// Whether the Rust can work it out in a moment: it compares each two sets of the family.
-fn is_quick(i: &Input) -> bool {
+/// Whether the family has at most so many sets: the Rust compares each two of them.
+fn is_within(i: &Input, most: usize) -> bool {
     let family = || document::family(i.n, i.f, &i.profile);
-    let is_small = || family().iter().filter(|&&m| m).count() < 2000;
-    i.n <= 10 || (is_known(i) && is_small())
+    i.n <= 10 || (is_known(i) && family().iter().filter(|&&m| m).count() <= most)
 }
 
 /// Whether the document works out the family.
@@ -96,6 +95,8 @@ impl Entry for FaultList {
                 Profile::NOTHING.with_probs(&[0.5, 0.5, 0.25], 0.25),
                 2,
             ),
+            case(16, 8, Profile::NOTHING, 12_870),
+            case(16, 8, Profile::NOTHING, 12_869),
             case(16, 15, Profile::NOTHING, 16),
             case(16, 1, Profile::NOTHING, 15),
         ]
@@ -118,7 +119,7 @@ impl Entry for FaultList {
         let n = population(rng);
         let mut input = Input {
             n,
-            f: if n > 10 { rng.below(3) } else { rng.below(n) },
+            f: rng.below(n),
             profile: Profile::random(rng, n),
             room: 0,
         };
@@ -129,7 +130,7 @@ impl Entry for FaultList {
                 _ => input.profile.damage(rng, input.n),
             }
         }
-        if !is_quick(&input) && is_known(&input) {
+        if is_known(&input) && !is_within(&input, 1000) {
             (input.f, input.profile.prob_count) = (input.f % 3, 0);
         }
         input.room = room(rng, &input);
@@ -146,7 +147,7 @@ impl Entry for FaultList {
             .probs
             .as_ref()
             .is_none_or(|(p, _)| p.len() as u64 == i.n);
-        if !right || !is_quick(i) {
+        if !right || !is_within(i, 13_000) {
             return None;
         }
         Some(api::tolerance(n, f, &profile).map(|list| {

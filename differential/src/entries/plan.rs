@@ -41,12 +41,29 @@ pub fn bytes(rng: &mut Rng, limit: u64) -> u64 {
     }
 }
 
-/// The floats of a model: ordinary, or now and then any.
-pub fn model<const N: usize>(rng: &mut Rng, odd: bool) -> [f64; N] {
-    std::array::from_fn(|_| match odd && rng.once_in(3) {
-        true => rng.float(),
-        false => rng.below(80) as f64 / 8.0,
-    })
+/// How the floats of an input's models are drawn.
+#[derive(Clone, Copy)]
+pub enum Floats {
+    Ordinary,
+    /// Now and then any float.
+    Any,
+    /// Zeros of both signs, 1 and -1.
+    Zeros,
+}
+
+impl Floats {
+    pub fn random(rng: &mut Rng) -> Floats {
+        use Floats::{Any, Ordinary, Zeros};
+        rng.pick(&[Ordinary, Ordinary, Any, Any, Zeros])
+    }
+
+    pub fn draw<const N: usize>(self, rng: &mut Rng) -> [f64; N] {
+        std::array::from_fn(|_| match self {
+            Floats::Any if rng.once_in(3) => rng.float(),
+            Floats::Zeros => rng.pick(&[0.0, -0.0, 1.0, -1.0]),
+            _ => rng.below(80) as f64 / 8.0,
+        })
+    }
 }
 
 impl Input {
@@ -97,7 +114,7 @@ fn float(x: f64) -> String {
 impl Entry for Plan {
     type Input = Input;
     const NAME: &'static str = "plan";
-    const ANSWERS: &'static [&'static str] = &["a plan", "none"];
+    const ANSWERS: &'static [&'static str] = &["a plan", "a plan at -0", "none"];
     const REFUSALS: &'static [u64] = &[1, 3, 4, 5, 15, 16, 17];
     const FIELDS: usize = 3;
 
@@ -142,7 +159,7 @@ impl Entry for Plan {
             (true, 0) => (rng.within(1..=64), 64),
             _ => (rng.within(1..=8), rng.within(8..=64)),
         };
-        let odd = rng.once_in(3);
+        let floats = Floats::random(rng);
         let mut input = Input {
             n,
             own: rng.below(n),
@@ -150,9 +167,9 @@ impl Entry for Plan {
             d,
             total: total(rng, w),
             size: bytes(rng, 1 << 30),
-            penalty: model::<1>(rng, odd)[0],
+            penalty: floats.draw::<1>(rng)[0],
             heard: set(rng, n) | set(rng, n),
-            models: (0..n).map(|_| model(rng, odd)).collect(),
+            models: (0..n).map(|_| floats.draw(rng)).collect(),
             inflight: (0..n).map(|_| bytes(rng, 1 << 40)).collect(),
             faults: faults(rng, n),
             room: n as usize,
@@ -178,7 +195,9 @@ impl Entry for Plan {
         Some(asked.map(|plan| match plan {
             Some(p) => {
                 let fields = vec![1, p.w.into(), bits(p.time)];
-                Told::new(Answer::lent(fields, row_words(&p.rows)), "a plan")
+                let minus_0 = p.time.to_bits() == (-0.0f64).to_bits();
+                let class = if minus_0 { "a plan at -0" } else { "a plan" };
+                Told::new(Answer::lent(fields, row_words(&p.rows)), class)
             }
             None => Told::new(Answer::lent(vec![0; 3], junk(i.room)), "none"),
         }))

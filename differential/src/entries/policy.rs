@@ -5,13 +5,13 @@ use std::cmp::Ordering;
 use oracle::api::{self, Fail};
 
 use super::floor::{self, IN_A_BYTE, multiple};
-use super::plan::{bytes, model};
+use super::plan::{Floats, bytes};
 use crate::document::{self, Checked};
 use crate::entry::{Answer, Asked, Entry, Listed, Told};
 use crate::line::Line;
 use crate::parts::{
-    above, all_below, byte, damage_rows, damage_table, each_of, junk, low, population, row_words,
-    set, wide, wrong_room,
+    above, all_below, damage_rows, damage_table, each_of, junk, low, population, row_words, set,
+    wide, wrong_room,
 };
 use crate::rng::Rng;
 
@@ -40,8 +40,9 @@ pub struct Input {
     pub room: usize,
 }
 
-/// The name of a listed difference.
+/// The names of listed differences.
 pub const NANS: &str = "every NaN above infinity";
+pub const TWO_NANS: &str = "a sum of two NaNs";
 
 /// "Every NaN, all alike, stands above infinity here".
 fn nans_above(a: &f64, b: &f64) -> Ordering {
@@ -123,27 +124,28 @@ impl Input {
         (self.balanced && has).then_some(count)
     }
 
-    /// Whether some time is a sum of two NaNs: which of them it is differs from build to build, so
-    /// that the Rust's order of times is open.
+    /// Whether some time is a sum of two NaNs. Which of them it is, and so its place in the Rust's
+    /// order, differs from call to call: it hangs on the order in which a hash map hands out peers.
     fn is_open(&self) -> bool {
         let open = |&(_, [slope, delay, jitter], b): &(u8, [f64; 3], usize), load| {
             let is_nan = |slope, delay| api::predict(slope, delay, 0.0, b + load).is_nan();
             (is_nan(slope, 0.0) && delay.is_nan()) || (is_nan(slope, delay) && jitter.is_nan())
         };
         let peers = self.peers();
-        (0..self.majority).any(|step| peers.iter().any(|p| open(p, self.load(step))))
+        let at = |step| peers.iter().any(|p| open(p, self.load(step)));
+        self.balanced && self.adaptive && (0..self.majority).any(at)
     }
 
-    /// A difference from the Rust, whose choice is given: by its order of NaNs, or by its floor in
-    /// a byte. The name, the Rust's choice and the port's.
+    /// A difference from the Rust: its name, the Rust's choice and the port's. `told` is what the
+    /// Rust chose.
     fn listed(&self, told: Option<u64>) -> Option<(&'static str, Option<u64>, Option<u64>)> {
         let floors = [floor::in_a_byte, floor::whole]
             .map(|floor| floor(self.f, self.d, self.majority, self.alive));
-        let rust = match self.is_open() {
-            true => told,
-            false => self.chosen(f64::total_cmp, floors[0]),
-        };
         let port = self.chosen(nans_above, floors[1]);
+        if self.is_open() {
+            return Some((TWO_NANS, told, port));
+        }
+        let rust = self.chosen(f64::total_cmp, floors[0]);
         let name = if floors[0] == floors[1] {
             NANS
         } else {
@@ -154,7 +156,9 @@ impl Input {
 
     /// Whether the Rust can hold the tables.
     fn is_right(&self) -> bool {
-        self.models.len() as u64 == self.n
+        let bytes = [self.n, self.f, self.d, self.w, self.majority];
+        bytes.iter().all(|&number| number < 256)
+            && self.models.len() as u64 == self.n
             && self.inflight.len() as u64 == self.n
             && self.init.len() as u64 == self.n
             && self.majority > 0
@@ -170,27 +174,25 @@ impl Input {
         self.d - self.d / self.majority + 1
     }
 
-    /// Asks the Rust with this table in place of the lent one.
-    fn ask(&self, table: &[(u8, Vec<api::Row>)]) -> Option<Result<Vec<api::Row>, Fail>> {
-        let (w, d, majority) = (byte(self.w)?, byte(self.d)?, byte(self.majority)?);
-        let (f, n, size) = (byte(self.f)?, byte(self.n)?, self.size as usize);
+    /// Asks the Rust with this table in place of the lent one. A part: the tables are right.
+    fn ask(&self, table: &[(u8, Vec<api::Row>)]) -> Result<Vec<api::Row>, Fail> {
         let init: Vec<_> = self.init.iter().map(|&row| wide(row)).collect();
-        Some(api::policy(
+        api::policy(
             self.adaptive,
             self.balanced,
-            w,
+            self.w as u8,
             &init,
             table,
-            d,
-            majority,
-            f,
-            size,
+            self.d as u8,
+            self.majority as u8,
+            self.f as u8,
+            self.size as usize,
             &self.peers(),
             0.0,
             None,
-            n,
+            self.n as u8,
             self.alive,
-        ))
+        )
     }
 
     /// The counts of the table, each with what `rows` gives for it.
@@ -204,25 +206,21 @@ impl Input {
 
     /// The Rust's choice. It gives rows alone, so that it is asked with a table whose rows number
     /// one more than n, the last naming the count by its one shard.
-    fn rust_choice(&self) -> Option<Result<Option<u64>, Fail>> {
+    fn rust_choice(&self) -> Result<Option<u64>, Fail> {
         let n = self.n as usize;
         let marked = self.tabled(|count| {
             let mut rows = vec![wide(0); n + 1];
             rows[n] = wide(1 << (count - 1));
             rows
         });
-        let asked = self.ask(&marked)?;
-        Some(asked.map(|rows| {
-            rows.get(n)
-                .map(|row| u64::from(row[0].trailing_zeros()) + 1)
-        }))
+        let count = |row: &api::Row| u64::from(row[0].trailing_zeros()) + 1;
+        self.ask(&marked).map(|rows| rows.get(n).map(count))
     }
 
     /// The Rust's rows.
-    fn rust_rows(&self) -> Option<Result<Vec<u64>, Fail>> {
+    fn rust_rows(&self) -> Result<Vec<u64>, Fail> {
         let real = |count| self.rows(count).iter().map(|&row| wide(row)).collect();
-        let asked = self.ask(&self.tabled(real))?;
-        Some(asked.map(|rows| row_words(&rows)))
+        self.ask(&self.tabled(real)).map(|rows| row_words(&rows))
     }
 }
 
@@ -231,26 +229,82 @@ fn fields(choice: Option<u64>) -> Vec<u64> {
     vec![choice.is_some().into(), choice.unwrap_or(0)]
 }
 
-/// What the Rust says of a choice, with rows or without.
-fn told(i: &Input, choice: Option<u64>, answer: impl Fn(Option<u64>) -> Answer) -> Told {
-    let class = if choice.is_some() {
-        "balanced"
-    } else {
-        "initial"
-    };
-    let mut told = Told::new(answer(choice), class);
+/// A choice with its rows.
+fn with_rows(i: &Input, choice: Option<u64>) -> Answer {
+    let rows = choice.map_or(&i.init[..], |count| i.rows(count));
+    Answer::lent(fields(choice), rows.to_vec())
+}
+
+/// What the Rust says, having chosen so; `answer` is what a choice comes to.
+fn told(
+    i: &Input,
+    choice: Option<u64>,
+    said: Answer,
+    answer: impl Fn(Option<u64>) -> Answer,
+) -> Told {
+    let class = choice.map_or("initial", |_| "balanced");
+    let mut told = Told::new(said, class);
     if document::policy(i).is_ok() {
         told.listed = i.listed(choice).map(|(name, rust, port)| Listed {
             name,
-            rust: answer(rust),
+            rust: if name == TWO_NANS {
+                told.answer.clone()
+            } else {
+                answer(rust)
+            },
             port: answer(port),
         });
     }
     told
 }
 
+/// The smallest inputs of the listed differences.
 fn fixed() -> Vec<Input> {
-    vec![]
+    vec![nan_below(), floor_in_a_byte()]
+}
+
+/// A peer's slope is a NaN with its sign set.
+#[must_use]
+pub fn nan_below() -> Input {
+    Input {
+        n: 2,
+        f: 0,
+        own: 0,
+        d: 2,
+        w: 2,
+        majority: 2,
+        size: 0,
+        adaptive: true,
+        balanced: true,
+        models: vec![[0.0; 3], [-f64::NAN, 0.0, 0.0]],
+        inflight: vec![0; 2],
+        alive: 3,
+        init: vec![1, 2],
+        table: vec![1, 2, 3, 3],
+        room: 2,
+    }
+}
+
+/// Nobody is alive, and the floor's product is 256.
+#[must_use]
+pub fn floor_in_a_byte() -> Input {
+    Input {
+        n: 3,
+        f: 2,
+        own: 0,
+        d: 64,
+        w: 64,
+        majority: 1,
+        size: 0,
+        adaptive: false,
+        balanced: true,
+        models: vec![[0.0; 3]; 3],
+        inflight: vec![0; 3],
+        alive: 0,
+        init: vec![1; 3],
+        table: vec![low(64); 3],
+        room: 3,
+    }
 }
 
 /// Up to 3 replicas: every majority, tolerance, mask and pair of these models.
@@ -307,7 +361,7 @@ fn random(rng: &mut Rng) -> Input {
     let w = rng.within(d..=64);
     let counts = d - d / majority + 1;
     let rows = if rng.once_in(8) { 0 } else { n * counts };
-    let odd = rng.once_in(3);
+    let floats = Floats::random(rng);
     let mut input = Input {
         n,
         f: rng.below(n),
@@ -318,7 +372,7 @@ fn random(rng: &mut Rng) -> Input {
         size: bytes(rng, 1 << 30),
         adaptive: !rng.once_in(4),
         balanced: !rng.once_in(6),
-        models: (0..n).map(|_| model(rng, odd)).collect(),
+        models: (0..n).map(|_| floats.draw(rng)).collect(),
         inflight: (0..n).map(|_| bytes(rng, 1 << 40)).collect(),
         alive: set(rng, n) | rng.pick(&[0, low(n)]) & set(rng, n),
         init: (0..n).map(|_| set(rng, d)).collect(),
@@ -342,7 +396,7 @@ impl Entry for Choice {
     type Input = Input;
     const NAME: &'static str = "choice";
     const ANSWERS: &'static [&'static str] = &["balanced", "initial"];
-    const LISTED: &'static [&'static str] = &[IN_A_BYTE, NANS];
+    const LISTED: &'static [&'static str] = &[IN_A_BYTE, NANS, TWO_NANS];
     const REFUSALS: &'static [u64] = &[1, 2, 3, 4, 5, 14, 15, 16, 17];
     const FIELDS: usize = 2;
 
@@ -366,8 +420,9 @@ impl Entry for Choice {
         if !i.is_right() {
             return None;
         }
-        let choice = i.rust_choice()?;
-        Some(choice.map(|choice| told(i, choice, |c| Answer::fields(fields(c)))))
+        let choice = i.rust_choice();
+        let answer = |choice| Answer::fields(fields(choice));
+        Some(choice.map(|choice| told(i, choice, answer(choice), answer)))
     }
 
     #[cfg(feature = "port")]
@@ -408,18 +463,9 @@ impl Entry for PolicyRows {
         if !i.is_right() {
             return None;
         }
-        let (choice, rows) = (i.rust_choice()?, i.rust_rows()?);
-        Some(choice.and_then(|choice| {
-            let rows = rows?;
-            let answer = |c: Option<u64>| {
-                let lent = if c == choice {
-                    &rows
-                } else {
-                    c.map_or(&i.init[..], |c| i.rows(c))
-                };
-                Answer::lent(fields(c), lent.to_vec())
-            };
-            Ok(told(i, choice, answer))
+        Some(i.rust_choice().and_then(|choice| {
+            let said = Answer::lent(fields(choice), i.rust_rows()?);
+            Ok(told(i, choice, said, |choice| with_rows(i, choice)))
         }))
     }
 
