@@ -1,6 +1,6 @@
 //! What the entries have in common: an input, two answers to it, and their comparison.
 
-use std::fmt::Debug;
+use std::fmt::{self, Debug, Formatter};
 
 use oracle::api::Fail;
 
@@ -9,7 +9,7 @@ use crate::line::Line;
 use crate::rng::Rng;
 
 /// What an entry answers, as words. A float is its bits, every NaN the same.
-#[derive(Debug, Clone, PartialEq, Eq)]
+#[derive(Clone, PartialEq, Eq)]
 pub struct Answer {
     pub refusal: u64,
     /// The fields of the C struct behind the refusal.
@@ -101,6 +101,17 @@ impl Answer {
     }
 }
 
+impl Debug for Answer {
+    fn fmt(&self, f: &mut Formatter) -> fmt::Result {
+        let Answer {
+            refusal,
+            fields,
+            lent,
+        } = self;
+        write!(f, "refusal {refusal}, fields {fields:x?}, lent {lent:x?}")
+    }
+}
+
 /// An entry of the port.
 pub trait Entry {
     type Input: Debug;
@@ -187,7 +198,7 @@ pub fn expected<E: Entry>(input: &E::Input) -> Result<(Answer, Vec<Outcome>), St
         Some(Ok(told)) => match told.listed {
             None => Ok((told.answer, told.outcomes)),
             Some(l) if l.rust == told.answer => Ok((l.port, vec![Outcome::Listed(l.name)])),
-            Some(l) => Err(format!("{}: the Rust answers {:x?}", l.name, told.answer)),
+            Some(l) => Err(format!("{}: the Rust answers {:?}", l.name, told.answer)),
         },
     }
 }
@@ -200,6 +211,6 @@ pub fn check<E: Entry>(input: &E::Input) -> Result<Vec<Outcome>, String> {
     if port == expected {
         Ok(outcomes)
     } else {
-        Err(format!("expected {expected:x?}\nthe port {port:x?}"))
+        Err(format!("expected {expected:?}\nthe port {port:?}"))
     }
 }

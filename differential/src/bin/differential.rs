@@ -1,10 +1,11 @@
 //! differential [--seed S] [--cases N] [--entry NAME]: the port beside the Rust, entry by entry, or
-//! one of them. N is the number of random cases an entry; those of the small spaces come on top. It fails at the first
-//! disagreement, and if an outcome that document 01 says is possible has no case.
+//! one of them. N is the number of random cases an entry; those of the small spaces come on top. It
+//! fails at the first disagreement, and if an outcome that document 01 says is possible has no case.
 
 use std::env;
 use std::error::Error;
 use std::panic::{self, AssertUnwindSafe};
+use std::process::ExitCode;
 use std::time::Instant;
 
 use differential::entries::covers::Covers;
@@ -21,6 +22,7 @@ use differential::entries::survived::Survived;
 use differential::entries::tally::{HandedIn, Replies};
 use differential::entries::unreliability::Unreliability;
 use differential::entry::{Entry, check};
+use differential::line::Line;
 use differential::report::Report;
 use differential::rng::Rng;
 
@@ -55,14 +57,22 @@ fn args() -> Result<Args, Box<dyn Error>> {
 /// Runs a case and counts it.
 fn case<E: Entry>(input: &E::Input, report: &mut Report) -> Result<(), String> {
     let checked = panic::catch_unwind(AssertUnwindSafe(|| check::<E>(input)));
-    match checked.unwrap_or(Err("a panic outside the Rust".into())) {
-        Ok(outcomes) => report.add(&outcomes),
-        Err(why) => {
-            let request = E::request(input).unwrap_or_default();
-            return Err(format!("{}: {input:?}\n{request}\n{why}", E::NAME));
-        }
-    }
+    let outcomes = checked
+        .unwrap_or(Err("a panic outside the Rust".into()))
+        .map_err(|why| format!("{}\n{why}", shown::<E>(input)))?;
+    report.add(&outcomes);
     Ok(())
+}
+
+/// An input in words, as the numbers of a stored line, and as a request to the oracle.
+fn shown<E: Entry>(input: &E::Input) -> String {
+    let mut line = Line::default();
+    E::words(input, &mut line);
+    let request = E::request(input).unwrap_or_default();
+    format!(
+        "{}: {input:?}\nin numbers: {line}\nto the oracle: {request}",
+        E::NAME
+    )
 }
 
 /// Runs an entry; the number of its cases.
@@ -97,7 +107,17 @@ fn run<E: Entry>(args: &Args) -> Result<u64, String> {
     }
 }
 
-fn main() -> Result<(), Box<dyn Error>> {
+fn main() -> ExitCode {
+    match run_all() {
+        Ok(()) => ExitCode::SUCCESS,
+        Err(why) => {
+            eprintln!("{why}");
+            ExitCode::FAILURE
+        }
+    }
+}
+
+fn run_all() -> Result<(), Box<dyn Error>> {
     let args = args()?;
     oracle::api::quiet();
     let build = if oracle::api::debug_build() {
@@ -126,6 +146,9 @@ fn main() -> Result<(), Box<dyn Error>> {
         + run::<Gossip>(&args)?
         + run::<Replies>(&args)?
         + run::<HandedIn>(&args)?;
+    if cases == 0 {
+        return Err("no entry has that name".into());
+    }
     println!(
         "{cases} cases, {:.0} s, seed {}: no disagreement",
         start.elapsed().as_secs_f64(),

@@ -68,54 +68,45 @@ fn domains(rng: &mut Rng, n: u64) -> String {
     sets.join("/")
 }
 
-/// A decimal, mostly a probability; some are at the edges of the digit rule or beyond.
+/// Ordinary decimals, those at the edges of the digit rule, and numerals that are malformed.
+const PLAIN: [&str; 8] = ["0", "1", "0.5", "0.25", "0.1", "0.01", "1e-3", "5e-2"];
+const EDGES: [&str; 16] = [
+    "+1", "-0", "-0.0", "1.", ".5", "+.5e0", "1e0", "1e1", "-1", "2", "0e22", "0e23", "1e-22",
+    "1e-23", "0e0022", "0e00022",
+];
+const MALFORMED: [&str; 12] = [
+    "inf", "NaN", "infinity", "-inf", "+nan", "", ".", "e", "1e", "1e+", "+-1", "0x1",
+];
+
+/// A decimal, mostly a probability.
 fn decimal(rng: &mut Rng) -> String {
-    match rng.below(24) {
-        0 => format!("0.{:0>14}", rng.below(100_000_000_000_000)),
-        1 => format!("0.{:0>15}", rng.below(1_000_000_000_000_000)),
-        2 => format!(".{:0>15}", rng.below(1_000_000_000_000_000)),
-        3 => format!("{}e-{}", rng.below(1000), rng.within(3..=24)),
-        4 => format!(
-            "{}.{}E-{}",
-            rng.below(10),
-            rng.below(1000),
-            rng.within(1..=23)
-        ),
-        5 => format!(
-            "0e{}{}",
-            rng.pick(&["", "+", "-", "00", "000"]),
-            rng.within(0..=25)
-        ),
-        6 => format!(
-            "0.0000{}e{}",
-            rng.below(10),
-            rng.pick(&["0", "04", "0004", "00004", "26", "27"])
-        ),
-        7 => rng
-            .pick(&[
-                "+1",
-                "-0",
-                "-0.0",
-                "1.",
-                ".5",
-                "+.5e0",
-                "1e0",
-                "1e1",
-                "-1",
-                "2",
-                "1.0000000000001",
-            ])
-            .into(),
-        8 if rng.once_in(8) => rng
-            .pick(&[
-                "inf", "NaN", "infinity", "-inf", "+nan", "", ".", "e", "1e", "1e+", "+-1", "0x1",
-            ])
-            .into(),
-        9..=13 => format!("0.{}", rng.below(1000)),
-        _ => rng
-            .pick(&["0", "1", "0.5", "0.25", "0.1", "0.01", "1e-3", "5e-2"])
-            .into(),
+    match rng.below(200) {
+        0 => rng.pick(&MALFORMED).into(),
+        1..20 => rng.pick(&EDGES).into(),
+        20..120 => digits(rng),
+        _ => rng.pick(&PLAIN).into(),
     }
+}
+
+/// Digits with a point somewhere and an exponent, mostly at most 1 and within the digit rule.
+fn digits(rng: &mut Rng) -> String {
+    let most = if rng.once_in(20) { 17 } else { 15 };
+    let len = rng.within(1..=most) as usize;
+    let mut text = format!("{:0>len$}", rng.below(10u64.pow(len as u32)));
+    let point = rng.index(len + 1);
+    text.insert(point, '.');
+    let power = match rng.below(20) {
+        0 => rng.within(0..=48) as i64 - 24,
+        _ => -(rng.within(len as u64..=len.max(22) as u64) as i64),
+    };
+    let exponent = power + (len - point) as i64;
+    let zeros = if exponent < 0 {
+        "-"
+    } else {
+        rng.pick(&["", "+", "0", "+00"])
+    };
+    let e = rng.pick(&['e', 'E']);
+    format!("{text}{e}{zeros}{}", exponent.abs())
 }
 
 fn probs(rng: &mut Rng, n: u64) -> String {

@@ -30,7 +30,7 @@ impl Entry for Survived {
         vec![]
     }
 
-    /// Up to 4 replicas: every mask under every list of at most 3 sets, and of any up to 3 replicas.
+    /// Every mask of up to 3 replicas under every list, and of 4 under every list of at most 3 sets.
     fn small(each: &mut dyn FnMut(Input)) {
         for (n, most) in [(1, 1), (2, 3), (3, 7), (4, 3)] {
             for faults in fault_lists(n, most) {

@@ -64,6 +64,20 @@ fn value_id(high: u64, low: u64) -> u128 {
     u128::from(high) << 64 | u128::from(low)
 }
 
+impl Opening {
+    fn words(&self) -> [u64; 7] {
+        [
+            self.n,
+            self.quorum,
+            self.d,
+            self.w,
+            self.ballot,
+            self.high,
+            self.low,
+        ]
+    }
+}
+
 impl State {
     fn open(opening: &Opening) -> State {
         State {
@@ -114,12 +128,28 @@ impl State {
         Ok(status)
     }
 
+    /// The words of the C struct.
     fn words(&self) -> Vec<u64> {
-        let o = &self.opening;
-        let mut words = vec![o.n, o.quorum, o.d, o.w, o.ballot, o.high, o.low];
+        let mut words = self.opening.words().to_vec();
         words.extend([self.heard, self.committed]);
         words.extend(self.rows);
         words
+    }
+
+    #[cfg(feature = "port")]
+    fn port(&self) -> callboard::Tally {
+        callboard::Tally {
+            population: self.opening.n,
+            quorum: self.opening.quorum,
+            data_shards: self.opening.d,
+            width: self.opening.w,
+            ballot: self.opening.ballot,
+            value_high: self.opening.high,
+            value_low: self.opening.low,
+            heard: self.heard,
+            committed: self.committed,
+            rows: self.rows,
+        }
     }
 }
 
@@ -320,25 +350,32 @@ impl Entry for Replies {
                 };
             }
         };
+        let n = o.n as usize;
         let mut fields = vec![];
         for r in &i.replies {
             let (refusal, status) = accept(&mut tally, r);
             fields.extend([refusal, status, tally.heard, tally.committed]);
-            fields.extend(&tally.rows[..o.n as usize]);
+            fields.extend(&tally.rows[..n]);
+        }
+        // What the opening set, and the rows at or above n, stay; if not, the answers differ.
+        (tally.heard, tally.committed) = (0, 0);
+        tally.rows[..n].fill(0);
+        if tally != State::open(o).port() {
+            fields.extend(tally_words(&tally));
         }
         Answer::fields(fields)
     }
 
     fn words(i: &Input, line: &mut Line) {
-        let o = &i.opening;
-        line.words(&[o.n, o.quorum, o.d, o.w, o.ballot, o.high, o.low]);
+        line.words(&i.opening.words());
+        line.word(i.replies.len() as u64);
+        i.replies.iter().for_each(|r| reply_words(r, line));
     }
 
     /// Each reply stands before what it comes to.
     fn line(i: &Input, answer: &Answer) -> Line {
         let mut line = Line::default();
-        Self::words(i, &mut line);
-        line.word(answer.refusal);
+        line.words(&i.opening.words()).word(answer.refusal);
         if answer.refusal == 0 {
             line.word(i.replies.len() as u64);
             let after = answer.fields.chunks(4 + i.opening.n as usize);
@@ -399,19 +436,7 @@ impl Entry for HandedIn {
 
     #[cfg(feature = "port")]
     fn port(i: &StateInput) -> Answer {
-        let s = &i.state;
-        let mut tally = callboard::Tally {
-            population: s.opening.n,
-            quorum: s.opening.quorum,
-            data_shards: s.opening.d,
-            width: s.opening.w,
-            ballot: s.opening.ballot,
-            value_high: s.opening.high,
-            value_low: s.opening.low,
-            heard: s.heard,
-            committed: s.committed,
-            rows: s.rows,
-        };
+        let mut tally = i.state.port();
         let (refusal, status) = accept(&mut tally, &i.reply);
         Answer {
             refusal,
