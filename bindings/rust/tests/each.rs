@@ -6,8 +6,14 @@ use callboard::*;
 /// A word that no answer has.
 const UNTOUCHED: u64 = 0xfeed_f00d_feed_f00d;
 
+/// More bytes in flight than are allowed.
+const FAR: u64 = (1 << 40) + 1;
+
 /// Fault tolerance 1 in a population of 3.
 const ANY_ONE: [u64; 3] = [0b001, 0b010, 0b100];
+
+/// The number that refuses, and a change to the input that brings it about.
+type Change<T> = (u64, fn(&mut T));
 
 fn profile(n: u64, text: &str) -> Profile {
     parse_profile(n, text.as_bytes()).unwrap()
@@ -86,13 +92,15 @@ fn fault_lists_refused() {
 
 #[test]
 fn coverage() {
-    let covers = |d, w, rows| covers(3, d, w, 0b111, rows, &ANY_ONE);
-    assert_eq!(covers(2, 3, &[1, 2, 4]), Ok(true));
-    assert_eq!(covers(2, 3, &[1, 2, 1]), Ok(false));
-    assert_eq!(covers(2, 64, &[1, 2, 4]), Ok(true));
-    assert_eq!(covers(2, 65, &[1, 2, 4]), Err(Refusal(4)));
-    assert_eq!(covers(2, 3, &[1, 2, 8]), Err(Refusal(16)));
-    assert_eq!(covers(2, 3, &[1, 2]), Err(Refusal(17)));
+    let covers = |w, heard, rows| covers(3, 2, w, heard, rows, &ANY_ONE);
+    assert_eq!(covers(3, 0b111, &[1, 2, 4]), Ok(true));
+    assert_eq!(covers(3, 0b111, &[1, 2, 1]), Ok(false));
+    assert_eq!(covers(3, 0b011, &[3, 3, 0]), Ok(true));
+    assert_eq!(covers(3, 0, &[3, 3, 0]), Ok(false));
+    assert_eq!(covers(64, 0b111, &[1, 2, 4]), Ok(true));
+    assert_eq!(covers(65, 0b111, &[1, 2, 4]), Err(Refusal(4)));
+    assert_eq!(covers(3, 0b111, &[1, 2, 8]), Err(Refusal(16)));
+    assert_eq!(covers(3, 0b111, &[1, 2]), Err(Refusal(17)));
 }
 
 #[test]
@@ -151,19 +159,43 @@ fn layouts_that_commit() {
     assert_eq!(commits(2, 0b011), (layout(2, false), [0b11, 0b1, 0]));
 }
 
-/// The site sheet's plan, with what varies there and in the refusals.
+/// The site sheet's plan, with what varies in the tests.
 struct PlanInput {
     own: u64,
+    quorum: u64,
+    penalty: f64,
     heard: u64,
+    model: [f64; 4],
     inflight: [u64; 3],
     faults: &'static [u64],
 }
 
 const PLAN: PlanInput = PlanInput {
     own: 0,
+    quorum: 2,
+    penalty: 0.0,
     heard: 0b111,
+    model: [1.0, 1.0, 0.0, 0.0],
     inflight: [0; 3],
     faults: &ANY_ONE,
+};
+
+const NO_FAULT: PlanInput = PlanInput {
+    faults: &[0],
+    ..PLAN
+};
+
+const SILENT: PlanInput = PlanInput {
+    heard: 0b001,
+    ..PLAN
+};
+
+/// One shard behind 1 MiB in flight takes 2 x 2 + 8 + 32 + 0.5 x 256; our own record is unread.
+const UNLIKE: PlanInput = PlanInput {
+    penalty: 256.0,
+    model: [2.0, 8.0, 32.0, 0.5],
+    inflight: [FAR, 1 << 20, 1 << 20],
+    ..PLAN
 };
 
 impl PlanInput {
@@ -171,13 +203,13 @@ impl PlanInput {
         pick_assignment(
             3,
             self.own,
-            2,
+            self.quorum,
             2,
             TotalShards::AtMost(3),
             2 << 20,
-            0.0,
+            self.penalty,
             self.heard,
-            &[[1.0, 1.0, 0.0, 0.0]; 3],
+            &[self.model; 3],
             &self.inflight,
             self.faults,
             rows,
@@ -187,42 +219,36 @@ impl PlanInput {
 
 #[test]
 fn plans() {
-    let mut rows = [UNTOUCHED; 3];
-    let silent = PlanInput {
-        heard: 0b001,
-        ..PLAN
-    };
-    assert_eq!(silent.pick(&mut rows), Ok(None));
-    assert_eq!(rows, [UNTOUCHED; 3]);
-
     let plan = |time| Ok(Some(Plan { time, width: 2 }));
-    assert_eq!(PLAN.pick(&mut rows), plan(2.0));
-    assert_eq!(rows, [0b11, 0b1, 0b10]);
-    let no_fault = PlanInput {
-        faults: &[0],
-        ..PLAN
-    };
-    assert_eq!(no_fault.pick(&mut rows), plan(1.0));
-    assert_eq!(rows, [0b11, 0, 0]);
+    for (input, answer, expected) in [
+        (PLAN, plan(2.0), [0b11, 0b1, 0b10]),
+        (NO_FAULT, plan(1.0), [0b11, 0, 0]),
+        (SILENT, Ok(None), [UNTOUCHED; 3]),
+        (UNLIKE, plan(172.0), [0b11, 0b1, 0b10]),
+    ] {
+        let mut rows = [UNTOUCHED; 3];
+        assert_eq!(input.pick(&mut rows), answer);
+        assert_eq!(rows, expected);
+    }
 }
 
 #[test]
 fn plans_refused() {
+    let changes: [Change<PlanInput>; 5] = [
+        (3, |input| input.own = 3),
+        (5, |input| input.quorum = 4),
+        (15, |input| input.inflight = [0, 0, FAR]),
+        (16, |input| input.heard = 0b1111),
+        (17, |input| input.faults = &[0b111]),
+    ];
     let mut rows = [UNTOUCHED; 3];
-    let mut refused = |input: PlanInput| input.pick(&mut rows).unwrap_err();
-    assert_eq!(refused(PlanInput { own: 3, ..PLAN }), Refusal(3));
-    let far = (1 << 40) + 1;
-    let inflight = [0, 0, far];
-    assert_eq!(refused(PlanInput { inflight, ..PLAN }), Refusal(15));
-    let heard = 0b1111;
-    assert_eq!(refused(PlanInput { heard, ..PLAN }), Refusal(16));
-    let faults = &[0b111];
-    assert_eq!(refused(PlanInput { faults, ..PLAN }), Refusal(17));
+    for (number, change) in changes {
+        let mut input = PLAN;
+        change(&mut input);
+        assert_eq!(input.pick(&mut rows), Err(Refusal(number)));
+    }
     assert_eq!(PLAN.pick(&mut rows[..2]), Err(Refusal(17)));
     assert_eq!(rows, [UNTOUCHED; 3]);
-    // our own record is unread
-    let inflight = [far, 0, 0];
-    assert!(PlanInput { inflight, ..PLAN }.pick(&mut rows).is_ok());
 }
 
 #[test]
@@ -248,7 +274,7 @@ fn floors() {
     assert_eq!(min_shards_per_replica(3, 1, 4, 2, 0b1000), Err(Refusal(16)));
 }
 
-/// One shard a replica takes 1 + 51 / 2^20, two take 1 + 102 / 2^20.
+/// Times in bytes: one shard a replica takes max(51, 51 + 40), two take min(102, 102 + 40).
 const POLICY: PolicyInput = PolicyInput {
     n: 3,
     f: 1,
@@ -259,11 +285,27 @@ const POLICY: PolicyInput = PolicyInput {
     size: 100,
     adaptive: true,
     balanced: true,
-    models: &[[1.0, 1.0, 0.0]; 3],
+    models: &[
+        [f64::NAN; 3],
+        [1_048_576.0, 0.0, 0.0],
+        [1_048_576.0, 39.0, 1.0],
+    ],
     inflight: &[0; 3],
     alive: 0b111,
     init: &[4, 2, 1],
     table: &[1, 2, 4, 3, 3, 3],
+};
+
+/// One shard takes 60 more.
+const BUSY: PolicyInput = PolicyInput {
+    inflight: &[0, 0, 60],
+    ..POLICY
+};
+
+/// The initial layout's row 0 has one shard.
+const FIXED: PolicyInput = PolicyInput {
+    adaptive: false,
+    ..BUSY
 };
 
 /// One replica alive: the floor is 2.
@@ -287,6 +329,8 @@ const NO_TABLE: PolicyInput = PolicyInput {
 fn policies() {
     for (input, choice, expected) in [
         (POLICY, Choice::Balanced(1), [1, 2, 4]),
+        (BUSY, Choice::Balanced(2), [3, 3, 3]),
+        (FIXED, Choice::Balanced(1), [1, 2, 4]),
         (ALONE, Choice::Balanced(2), [3, 3, 3]),
         (UNBALANCED, Choice::Initial, [4, 2, 1]),
         (NO_TABLE, Choice::Initial, [4, 2, 1]),
@@ -300,21 +344,23 @@ fn policies() {
 
 #[test]
 fn policies_refused() {
+    let changes: [Change<PolicyInput>; 11] = [
+        (2, |input| input.f = 3),
+        (3, |input| input.own = 3),
+        (4, |input| input.w = 65),
+        (5, |input| input.majority = 4),
+        (14, |input| input.d = 3),
+        (15, |input| input.size = (1 << 30) + 1),
+        (15, |input| input.inflight = &[0, FAR, 0]),
+        (16, |input| input.alive = 0b1000),
+        (16, |input| input.init = &[4, 2, 8]),
+        (17, |input| input.table = &[1, 2, 4]),
+        (17, |input| input.models = &[[0.0; 3]; 2]),
+    ];
     let mut rows = [UNTOUCHED; 3];
-    let odd = PolicyInput { d: 3, ..POLICY };
-    let large = PolicyInput {
-        size: (1 << 30) + 1,
-        ..POLICY
-    };
-    let wide = PolicyInput {
-        init: &[4, 2, 8],
-        ..POLICY
-    };
-    let short = PolicyInput {
-        table: &[1, 2, 4],
-        ..POLICY
-    };
-    for (input, number) in [(odd, 14), (large, 15), (wide, 16), (short, 17)] {
+    for (number, change) in changes {
+        let mut input = POLICY;
+        change(&mut input);
         assert_eq!(pick_assignment_policy(input), Err(Refusal(number)));
         assert_eq!(policy_rows(input, &mut rows), Err(Refusal(number)));
     }
@@ -355,14 +401,33 @@ fn layout_texts_refused() {
 #[test]
 fn gossip() {
     let mut exclusions = [UNTOUCHED; 4];
-    let mut asked = |own, available| {
+    let mut asked = |own, source, have| {
         let (rows, alive) = ([1, 2, 4, 8], 0b1111);
-        let asked = gossip_targets_excl(4, own, 0, 2, 4, available, &rows, alive, &mut exclusions);
+        let asked = gossip_targets_excl(4, own, source, 2, 4, have, &rows, alive, &mut exclusions);
         (asked, exclusions)
     };
-    assert_eq!(asked(4, 0b11), (Err(Refusal(3)), [UNTOUCHED; 4]));
-    assert_eq!(asked(1, 0b10000), (Err(Refusal(16)), [UNTOUCHED; 4]));
-    assert_eq!(asked(1, 0b11), (Ok(0b0100), [0, 0, 0b11, 0]));
+    assert_eq!(asked(4, 0, 0b11), (Err(Refusal(3)), [UNTOUCHED; 4]));
+    assert_eq!(asked(1, 0, 0b10000), (Err(Refusal(16)), [UNTOUCHED; 4]));
+    assert_eq!(asked(1, 0, 0b11), (Ok(0b0100), [0, 0, 0b11, 0]));
+    // round the ring from 3, the source 1 last
+    assert_eq!(asked(3, 1, 0b1000), (Ok(0b0001), [0b1000, 0, 0, 0]));
+}
+
+#[test]
+fn opened_tally() {
+    let opened = Tally {
+        population: 5,
+        quorum: 3,
+        data_shards: 2,
+        width: 4,
+        ballot: 7,
+        value_high: 6,
+        value_low: 99,
+        heard: 0,
+        committed: 0,
+        rows: [0; 16],
+    };
+    assert_eq!(Tally::open(5, 3, 2, 4, 7, 6, 99), Ok(opened));
 }
 
 #[test]
