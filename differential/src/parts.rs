@@ -146,8 +146,24 @@ impl Profile {
         if p.prob_count != 0 {
             let probable = rng.probability();
             p.probs[..n as usize].fill_with(|| rng.probability().min(probable));
+            p.at_an_edge(rng, n);
         }
         p
+    }
+
+    /// Sets the threshold to the product of some probabilities, or to a float beside it.
+    fn at_an_edge(&mut self, rng: &mut Rng, n: u64) {
+        let members = set(rng, n);
+        let chosen = (0..n).filter(|&s| has(members, s));
+        let product = chosen.fold(1.0, |product, s| product * self.probs[s as usize]);
+        let edge = match rng.below(4) {
+            0 => product.next_up(),
+            1 => product.next_down(),
+            _ => product,
+        };
+        if edge > 0.0 && edge <= 1.0 && rng.once_in(2) {
+            self.threshold = edge;
+        }
     }
 
     /// Damages one word of it.

@@ -322,8 +322,10 @@ impl Entry for Replies {
             }
             replies.push(r);
         }
-        if rng.once_in(8) {
+        let mut damaged = rng.once_in(8);
+        while damaged {
             damage_opening(rng, &mut opening);
+            damaged = rng.once_in(2);
         }
         Input { opening, replies }
     }
