@@ -136,7 +136,18 @@ impl Entry for Plan {
             faults: faults.to_vec(),
             room: 3,
         };
-        vec![sheet(7, &[1, 2, 4]), sheet(7, &[0]), sheet(1, &[1, 2, 4])]
+        // Peers that reply at -0, before our own +0.
+        let minus_0 = Input {
+            models: vec![[-0.0; 4]; 3],
+            penalty: 1.0,
+            ..sheet(7, &[1, 2, 4])
+        };
+        vec![
+            sheet(7, &[1, 2, 4]),
+            sheet(7, &[0]),
+            sheet(1, &[1, 2, 4]),
+            minus_0,
+        ]
     }
 
     /// Up to 3 replicas and 2 data shards; peers silent, or with slope and delay 0 or 1.
