@@ -258,9 +258,13 @@ fn told(
     told
 }
 
-/// The smallest inputs of the listed differences.
+/// One input of each listed difference.
 fn fixed() -> Vec<Input> {
-    vec![nan_below(), floor_in_a_byte()]
+    let two_nans = Input {
+        models: vec![[0.0; 3], [f64::NAN, -f64::NAN, 0.0]],
+        ..nan_below()
+    };
+    vec![nan_below(), two_nans, floor_in_a_byte()]
 }
 
 /// A peer's slope is a NaN with its sign set.
