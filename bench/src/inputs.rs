@@ -1,6 +1,7 @@
-//! What several cases are made from.
+//! What the inputs of several cases are made from.
 
-use oracle::api::{Profile, Row};
+use callboard::TotalShards;
+use oracle::api::{Profile, Row, Total};
 
 pub const NO_PROFILE: Profile = Profile {
     domains: vec![],
@@ -8,43 +9,43 @@ pub const NO_PROFILE: Profile = Profile {
     runtime: false,
 };
 
-/// Every set of f of n replicas, in rising order.
-pub fn fault_masks(n: u8, f: u8) -> Vec<u64> {
-    let sets = 0..1u64 << n;
-    sets.filter(|set| set.count_ones() == u32::from(f))
-        .collect()
-}
+/// At most as many shards as the port takes.
+pub const TOTAL: Total = Total::AtMost(64);
+pub const PORT_TOTAL: TotalShards = TotalShards::AtMost(64);
 
-/// The mask of all n replicas.
+/// The mask of the replicas below n.
 pub fn everyone(n: u8) -> u64 {
     (1 << n) - 1
 }
 
-/// Rows of `count` shards each, one after another, modulo w.
-pub fn balanced_rows(n: u8, count: u8, step: u8, w: u8) -> Vec<u64> {
-    let shard =
-        |r: u8, i: u8| 1 << ((u64::from(r) * u64::from(step) + u64::from(i)) % u64::from(w));
-    let row = |r| (0..count).fold(0, |row, i| row | shard(r, i));
+/// Every set of f of n replicas, in rising order.
+pub fn fault_masks(n: u8, f: u8) -> Vec<u64> {
+    (0..1 << n)
+        .filter(|set: &u64| set.count_ones() == f.into())
+        .collect()
+}
+
+/// A row for each of n replicas: `count` shards from its number times `step` on, modulo w.
+pub fn round_robin(n: u8, count: u8, step: u8, w: u8) -> Vec<u64> {
+    let shard = |r: u8, i: u8| (u32::from(r) * u32::from(step) + u32::from(i)) % u32::from(w);
+    let row = |r: u8| (0..count).fold(0, |row, i| row | 1 << shard(r, i));
     (0..n).map(row).collect()
 }
 
-pub fn wide(word: u64) -> Row {
-    [word, 0, 0, 0]
+/// The row in the original's form.
+pub fn rust_row(row: u64) -> Row {
+    [row, 0, 0, 0]
 }
 
-pub fn wide_all(words: &[u64]) -> Vec<Row> {
-    words.iter().copied().map(wide).collect()
+pub fn rust_rows(rows: &[u64]) -> Vec<Row> {
+    rows.iter().copied().map(rust_row).collect()
 }
 
-pub fn words(bytes: &[u8]) -> Vec<u64> {
-    bytes.iter().copied().map(u64::from).collect()
-}
-
-/// The port's form of a profile.
+/// The profile in the port's form.
 pub fn port_profile(profile: &Profile) -> callboard::Profile {
     let mut port = callboard::Profile {
         domain_count: profile.domains.len() as u64,
-        runtime: u64::from(profile.runtime),
+        runtime: profile.runtime.into(),
         ..callboard::Profile::default()
     };
     port.domains[..profile.domains.len()].copy_from_slice(&profile.domains);

@@ -1,95 +1,118 @@
-//! Times the two sides of a case in turn, and prints what came of it.
+//! Times the two sides of a case in turn.
 
+use std::hint::black_box;
 use std::time::{Duration, Instant};
 
 /// A sample has as many calls as take this long, or one call.
 const SAMPLE: Duration = Duration::from_micros(100);
-/// Samples are taken for as long as this, or to the fewest or the most.
+/// Samples are taken for this long, but never fewer than FEWEST or more than MOST.
 const BUDGET: Duration = Duration::from_millis(1500);
 const FEWEST: u128 = 5;
 const MOST: u128 = 2001;
-/// Pairs of samples that are not counted.
-const WARM_UPS: usize = 3;
+/// Pairs of samples that come before and are not counted, where a sample has several calls.
+const WARM_UPS: usize = 5;
 
-type Call = Box<dyn FnMut()>;
-
-/// The same input for the original and for the port. Whoever makes one has compared the answers.
+/// One input, for the original and for the port.
 pub struct Case {
-    name: String,
-    target: f64,
-    rust: Call,
-    port: Call,
+    pub name: String,
+    /// How many times as fast as the original the port is to be; at least once, if it is not said.
+    pub target: Option<f64>,
+    make: Box<dyn FnOnce() -> Sides>,
 }
 
 impl Case {
-    pub fn new(
-        name: impl Into<String>,
-        rust: impl FnMut() + 'static,
-        port: impl FnMut() + 'static,
-    ) -> Self {
+    /// `make` prepares the input and compares the two answers to it, when the case is timed.
+    pub fn new(name: impl Into<String>, make: impl FnOnce() -> Sides + 'static) -> Self {
         Case {
             name: name.into(),
-            target: 1.0,
-            rust: Box::new(rust),
-            port: Box::new(port),
+            target: None,
+            make: Box::new(make),
         }
     }
 
-    /// Asks that the port be so many times as fast; without a target it is to be no slower.
     pub fn target(self, target: f64) -> Self {
-        Case { target, ..self }
+        Case {
+            target: Some(target),
+            ..self
+        }
     }
 
-    pub fn measure(mut self) -> Measured {
-        let mut rust = Side::new(&mut self.rust);
-        let mut port = Side::new(&mut self.port);
-        for _ in 0..WARM_UPS.min(rust.warm_ups()) {
-            rust.sample();
-            port.sample();
-        }
-        let pair = rust.sample() + port.sample();
-        let samples = (BUDGET.as_nanos() / pair.as_nanos().max(1)).clamp(FEWEST, MOST);
-        for i in 0..samples {
-            if i % 2 == 0 {
-                rust.take();
-                port.take();
-            } else {
-                port.take();
-                rust.take();
-            }
-        }
+    pub fn measure(self) -> Measured {
+        let (rust, port) = (self.make)().medians();
         Measured {
             name: self.name,
             target: self.target,
-            rust: rust.median(),
-            port: port.median(),
+            rust,
+            port,
         }
     }
 }
 
-/// One side of a case while it is timed.
-struct Side<'a> {
-    call: &'a mut Call,
+/// A case made ready.
+pub struct Sides {
+    rust: Side,
+    port: Side,
+}
+
+impl Sides {
+    pub fn new<R, P>(rust: impl FnMut() -> R + 'static, port: impl FnMut() -> P + 'static) -> Self {
+        Sides {
+            rust: Side::new(rust),
+            port: Side::new(port),
+        }
+    }
+
+    /// Nanoseconds a call, of the original and of the port.
+    fn medians(mut self) -> (f64, f64) {
+        self.rust.warm_up();
+        self.port.warm_up();
+        for i in 0..self.samples() {
+            if i % 2 == 0 {
+                self.rust.take();
+                self.port.take();
+            } else {
+                self.port.take();
+                self.rust.take();
+            }
+        }
+        (self.rust.median(), self.port.median())
+    }
+
+    fn samples(&mut self) -> u128 {
+        let pair = self.rust.sample() + self.port.sample();
+        (BUDGET.as_nanos() / pair.as_nanos().max(1)).clamp(FEWEST, MOST)
+    }
+}
+
+struct Side {
+    call: Box<dyn FnMut()>,
+    /// The calls of a sample.
     calls: u32,
-    /// Nanoseconds a call.
+    /// The samples, in nanoseconds a call.
     taken: Vec<f64>,
 }
 
-impl<'a> Side<'a> {
-    fn new(call: &'a mut Call) -> Self {
-        let mut side = Side {
-            call,
+impl Side {
+    fn new<T>(mut call: impl FnMut() -> T + 'static) -> Self {
+        Side {
+            call: Box::new(move || {
+                black_box(call());
+            }),
             calls: 1,
             taken: vec![],
-        };
-        while side.sample() < SAMPLE && side.calls < 1 << 20 {
-            side.calls *= 2;
         }
-        side
     }
 
-    fn warm_ups(&self) -> usize {
-        if self.calls > 1 { WARM_UPS } else { 0 }
+    /// Finds out how many calls make a sample.
+    fn warm_up(&mut self) {
+        while self.sample() < SAMPLE {
+            self.calls *= 2;
+        }
+        if self.calls > 1 {
+            for _ in 0..WARM_UPS {
+                self.sample();
+            }
+        }
     }
 
     fn sample(&mut self) -> Duration {
@@ -101,8 +124,8 @@ impl<'a> Side<'a> {
     }
 
     fn take(&mut self) {
-        let nanos = self.sample().as_nanos() as f64 / f64::from(self.calls);
-        self.taken.push(nanos);
+        let nanos = self.sample().as_nanos() as f64;
+        self.taken.push(nanos / f64::from(self.calls));
     }
 
     fn median(mut self) -> f64 {
@@ -113,44 +136,18 @@ impl<'a> Side<'a> {
 
 /// The medians of a case, in nanoseconds a call.
 pub struct Measured {
-    name: String,
-    target: f64,
-    rust: f64,
-    port: f64,
+    pub name: String,
+    pub target: Option<f64>,
+    pub rust: f64,
+    pub port: f64,
 }
 
 impl Measured {
-    pub fn head() -> String {
-        format!(
-            "{:46} {:>12} {:>12} {:>8} {:>6}",
-            "case", "Rust", "port", "ratio", "target"
-        )
-    }
-
     pub fn ratio(&self) -> f64 {
         self.rust / self.port
     }
 
-    pub fn is_met(&self) -> bool {
-        self.ratio() >= self.target
-    }
-
-    pub fn line(&self) -> String {
-        format!(
-            "{:46} {:>12} {:>12} {:>8.2} {:>6}",
-            self.name,
-            duration(self.rust),
-            duration(self.port),
-            self.ratio(),
-            self.target
-        )
-    }
-}
-
-fn duration(nanos: f64) -> String {
-    match nanos {
-        ..1e3 => format!("{nanos:.1} ns"),
-        1e3..1e6 => format!("{:.2} µs", nanos / 1e3),
-        _ => format!("{:.2} ms", nanos / 1e6),
+    pub fn is_below(&self) -> bool {
+        self.ratio() < self.target.unwrap_or(1.0)
     }
 }

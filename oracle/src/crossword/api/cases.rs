@@ -287,7 +287,7 @@ impl PolicyCase {
         }
     }
 
-    pub(super) fn answer(&self, size: usize) -> &Vec<Bitmap> {
+    fn answer(&self, size: usize) -> &Vec<Bitmap> {
         CrosswordReplica::pick_assignment_policy(
             self.adaptive,
             self.balanced,
@@ -308,6 +308,11 @@ impl PolicyCase {
     /// The number of rows that are handed back.
     pub fn run(&self, size: usize) -> usize {
         black_box(self.answer(size)).len()
+    }
+
+    /// The rows, converted.
+    pub fn rows(&self, size: usize) -> Vec<Row> {
+        convert::rows_of(self.answer(size))
     }
 }
 

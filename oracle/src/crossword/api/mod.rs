@@ -314,7 +314,7 @@ pub fn policy(
         let case = PolicyCase::new(
             adaptive, balanced, w, init, brr, d, majority, f, models, threshold, qdisc, n, alive,
         );
-        Ok(rows_of(case.answer(size)))
+        Ok(case.rows(size))
     })
 }
 
