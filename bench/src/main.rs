@@ -2,6 +2,7 @@
 //! below its target, or below 1. With words as arguments, only the cases whose names have one of
 //! them are timed.
 
+mod clock;
 mod coverage;
 mod faults;
 mod inputs;

@@ -47,9 +47,11 @@ fn equal(n: u8) -> Vec<Peer> {
 /// No two peers alike, and not in the order of their numbers.
 fn different(n: u8) -> Vec<Peer> {
     let mut peers = equal(n);
-    for (p, peer) in (0..).zip(&mut peers) {
+    for (p, peer) in (0u8..).zip(&mut peers) {
         peer.slope += 0.37 * f64::from(p * 7 % 16);
-        peer.unreliability *= f64::from(p);
+        peer.delay += 0.1 * f64::from(p * 5 % 16);
+        peer.unreliability *= f64::from(p * 3 % 16) / 16.0;
+        peer.inflight = usize::from(p * 11 % 16) << 14;
     }
     peers
 }
@@ -64,7 +66,7 @@ fn pick(n: u8, f: u8, d: u8, peers: &[Peer], planned: bool) -> Sides {
         .iter()
         .map(|peer| [peer.slope, peer.delay, peer.jitter, peer.unreliability])
         .collect();
-    let inflight = vec![0; n.into()];
+    let inflight: Vec<_> = peers.iter().map(|peer| peer.inflight as u64).collect();
     let ask = move |rows: &mut [u64]| {
         callboard::pick_assignment(
             n.into(),

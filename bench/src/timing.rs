@@ -1,7 +1,9 @@
 //! Times the two sides of a case in turn.
 
 use std::hint::black_box;
-use std::time::{Duration, Instant};
+use std::time::Duration;
+
+use crate::clock;
 
 /// A sample has as many calls as take this long, or one call.
 const SAMPLE: Duration = Duration::from_micros(100);
@@ -116,11 +118,11 @@ impl Side {
     }
 
     fn sample(&mut self) -> Duration {
-        let start = Instant::now();
+        let start = clock::now();
         for _ in 0..self.calls {
             (self.call)();
         }
-        start.elapsed()
+        clock::now() - start
     }
 
     fn take(&mut self) {
