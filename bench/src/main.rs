@@ -17,23 +17,16 @@ mod timing;
 use std::env;
 use std::process::ExitCode;
 
-use timing::{Case, Measured};
+use timing::{Case, Measured, Prepared, ROUNDS};
 
 fn main() -> ExitCode {
     let words: Vec<String> = env::args().skip(1).collect();
-    let mut missed = vec![];
-    table::print_head();
-    for case in cases() {
-        if !words.is_empty() && !words.iter().any(|word| case.name.contains(word)) {
-            continue;
-        }
-        let measured = case.measure();
-        table::print(&measured);
-        if measured.is_below() {
-            missed.push(measured);
-        }
-    }
-    verdict(&missed)
+    let is_wanted =
+        |case: &Case| words.is_empty() || words.iter().any(|word| case.name.contains(word));
+    let cases = cases().into_iter().filter(is_wanted);
+    let all = measure(cases.map(Case::prepare).collect());
+    table::print(&all);
+    verdict(all)
 }
 
 fn cases() -> Vec<Case> {
@@ -51,12 +44,21 @@ fn cases() -> Vec<Case> {
     .collect()
 }
 
-fn verdict(missed: &[Measured]) -> ExitCode {
-    if missed.is_empty() {
+fn measure(mut cases: Vec<Prepared>) -> Vec<Measured> {
+    for round in 1..=ROUNDS {
+        eprintln!("round {round} of {ROUNDS}");
+        cases.iter_mut().for_each(Prepared::take_round);
+    }
+    cases.into_iter().map(Prepared::measured).collect()
+}
+
+fn verdict(mut all: Vec<Measured>) -> ExitCode {
+    all.retain(Measured::is_below);
+    if all.is_empty() {
         println!("\nNo case is below its target, and none below 1.");
         return ExitCode::SUCCESS;
     }
-    println!("\nBelow the target, or below 1:");
-    missed.iter().for_each(table::print);
+    println!("\nBelow the target, or below 1:\n");
+    table::print(&all);
     ExitCode::FAILURE
 }

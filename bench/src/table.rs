@@ -2,18 +2,17 @@
 
 use crate::timing::Measured;
 
-pub fn print_head() {
+pub fn print(all: &[Measured]) {
     print_row("case", "Rust", "port", "ratio", "target");
-}
-
-pub fn print(measured: &Measured) {
-    print_row(
-        &measured.name,
-        &duration(measured.rust),
-        &duration(measured.port),
-        &format!("{:.2}", measured.ratio()),
-        &measured.target.map_or(String::new(), |t| t.to_string()),
-    );
+    for measured in all {
+        print_row(
+            &measured.name,
+            &duration(measured.rust),
+            &duration(measured.port),
+            &format!("{:.2}", measured.ratio),
+            &measured.target.map_or(String::new(), |t| t.to_string()),
+        );
+    }
 }
 
 fn print_row(case: &str, rust: &str, port: &str, ratio: &str, target: &str) {
@@ -21,7 +20,6 @@ fn print_row(case: &str, rust: &str, port: &str, ratio: &str, target: &str) {
     println!("{}", row.trim_end());
 }
 
-/// Three digits or a few more.
 fn duration(nanos: f64) -> String {
     match nanos {
         ..1e3 => format!("{nanos:.1} ns"),

@@ -5,13 +5,15 @@ use std::time::Duration;
 
 use crate::clock;
 
+/// All cases are timed once in each round, so that a while of load falls on a part of the samples
+/// of each and not on all of one. An odd number.
+pub const ROUNDS: usize = 5;
 /// A sample has as many calls as take this long, or one call.
 const SAMPLE: Duration = Duration::from_micros(100);
-/// Samples are taken for this long, but never fewer than FEWEST or more than MOST.
-const BUDGET: Duration = Duration::from_millis(1500);
-const FEWEST: u128 = 5;
-const MOST: u128 = 2001;
-/// Pairs of samples that come before and are not counted, where a sample has several calls.
+/// A round of a case takes this long, but has at least one pair of samples and not more than MOST.
+const ROUND: Duration = Duration::from_millis(300);
+const MOST: u128 = 401;
+/// Samples that come before and are not counted, where a sample has several calls.
 const WARM_UPS: usize = 5;
 
 /// One input, for the original and for the port.
@@ -23,7 +25,7 @@ pub struct Case {
 }
 
 impl Case {
-    /// `make` prepares the input and compares the two answers to it, when the case is timed.
+    /// `make` prepares the input and compares the two answers to it, if the case is timed.
     pub fn new(name: impl Into<String>, make: impl FnOnce() -> Sides + 'static) -> Self {
         Case {
             name: name.into(),
@@ -39,18 +41,48 @@ impl Case {
         }
     }
 
-    pub fn measure(self) -> Measured {
-        let (rust, port) = (self.make)().medians();
-        Measured {
+    pub fn prepare(self) -> Prepared {
+        let mut sides = (self.make)();
+        sides.rust.warm_up();
+        sides.port.warm_up();
+        Prepared {
             name: self.name,
             target: self.target,
-            rust,
-            port,
+            pairs: sides.pairs(),
+            sides,
         }
     }
 }
 
-/// A case made ready.
+/// A case that is being timed.
+pub struct Prepared {
+    name: String,
+    target: Option<f64>,
+    sides: Sides,
+    /// The pairs of samples of a round.
+    pairs: u128,
+}
+
+impl Prepared {
+    pub fn take_round(&mut self) {
+        for _ in 0..self.pairs {
+            self.sides.take_pair();
+        }
+    }
+
+    pub fn measured(self) -> Measured {
+        let (rust, port) = (self.sides.rust.taken, self.sides.port.taken);
+        Measured {
+            name: self.name,
+            target: self.target,
+            ratio: median(rust.iter().zip(&port).map(|(rust, port)| rust / port)),
+            rust: median(rust),
+            port: median(port),
+        }
+    }
+}
+
+/// The two that are compared.
 pub struct Sides {
     rust: Side,
     port: Side,
@@ -64,25 +96,21 @@ impl Sides {
         }
     }
 
-    /// Nanoseconds a call, of the original and of the port.
-    fn medians(mut self) -> (f64, f64) {
-        self.rust.warm_up();
-        self.port.warm_up();
-        for i in 0..self.samples() {
-            if i % 2 == 0 {
-                self.rust.take();
-                self.port.take();
-            } else {
-                self.port.take();
-                self.rust.take();
-            }
-        }
-        (self.rust.median(), self.port.median())
+    /// How many pairs of samples a round has: an odd number, so that there is a median.
+    fn pairs(&mut self) -> u128 {
+        let pair = self.rust.sample() + self.port.sample();
+        (ROUND.as_nanos() / pair.as_nanos()).min(MOST) | 1
     }
 
-    fn samples(&mut self) -> u128 {
-        let pair = self.rust.sample() + self.port.sample();
-        (BUDGET.as_nanos() / pair.as_nanos().max(1)).clamp(FEWEST, MOST)
+    /// Takes a sample of each, every other time the port's first.
+    fn take_pair(&mut self) {
+        if self.rust.taken.len().is_multiple_of(2) {
+            self.rust.take();
+            self.port.take();
+        } else {
+            self.port.take();
+            self.rust.take();
+        }
     }
 }
 
@@ -129,27 +157,28 @@ impl Side {
         let nanos = self.sample().as_nanos() as f64;
         self.taken.push(nanos / f64::from(self.calls));
     }
-
-    fn median(mut self) -> f64 {
-        self.taken.sort_by(f64::total_cmp);
-        self.taken[self.taken.len() / 2]
-    }
 }
 
-/// The medians of a case, in nanoseconds a call.
+/// Of an odd number of floats.
+fn median(floats: impl IntoIterator<Item = f64>) -> f64 {
+    let mut floats: Vec<_> = floats.into_iter().collect();
+    floats.sort_by(f64::total_cmp);
+    floats[floats.len() / 2]
+}
+
+/// The medians of a case: nanoseconds a call, and how many times as long as the port the original
+/// took in a pair of samples. The two of a pair meet the same load of the machine, so that their
+/// ratio varies less than either.
 pub struct Measured {
     pub name: String,
     pub target: Option<f64>,
     pub rust: f64,
     pub port: f64,
+    pub ratio: f64,
 }
 
 impl Measured {
-    pub fn ratio(&self) -> f64 {
-        self.rust / self.port
-    }
-
     pub fn is_below(&self) -> bool {
-        self.ratio() < self.target.unwrap_or(1.0)
+        self.ratio < self.target.unwrap_or(1.0)
     }
 }
