@@ -2,8 +2,8 @@
 
 use std::hint::black_box;
 
-use callboard::Tally;
-use oracle::api::{self, GossipCase, ReplyCase};
+use callboard::{Status, Tally};
+use oracle::api::{self, GossipCase, Reply, ReplyCase};
 
 use crate::inputs::{everyone, fault_masks, round_robin, rust_row, rust_rows};
 use crate::timing::{Case, Sides};
@@ -52,20 +52,77 @@ fn gossip(n: u8, d: u8) -> Sides {
 
 /// Every replica replies, and all the replies are needed.
 fn tally(n: u8, f: u8) -> Sides {
-    let (d, w, quorum) = ((n - f) * COUNT, n * COUNT, n / 2 + 1);
-    let (masks, rows) = (fault_masks(n, f), round_robin(n, COUNT, COUNT, w));
-    let replies: Vec<_> = (0..).zip(rust_rows(&rows)).collect();
-    let mut case = ReplyCase::new(n, 0, quorum, &masks, d, BALLOT, VALUE.into(), w, &replies);
-    let ask = move || {
-        let (n, quorum, d, w) = (n.into(), quorum.into(), d.into(), w.into());
-        let mut tally = Tally::open(n, quorum, d, w, BALLOT, 0, VALUE).unwrap();
-        for (source, &row) in (0..).zip(black_box(&rows)) {
-            let counted = tally.accept_reply(source, BALLOT, 0, VALUE, row, black_box(&masks));
-            black_box(counted.unwrap());
-        }
-        tally.committed != 0
-    };
+    let replies = Replies::new(n, f);
+    replies.compare();
+    let mut case = replies.case();
     assert!(case.run());
-    assert!(ask());
-    Sides::new(move || black_box(&mut case).run(), ask)
+    Sides::new(
+        move || black_box(&mut case).run(),
+        move || {
+            let replies = black_box(&replies);
+            let mut tally = replies.open();
+            for source in 0..n {
+                black_box(replies.count(&mut tally, source));
+            }
+            tally.committed
+        },
+    )
+}
+
+struct Replies {
+    n: u8,
+    quorum: u8,
+    d: u8,
+    w: u8,
+    masks: Vec<u64>,
+    /// The row of each replica's reply.
+    rows: Vec<u64>,
+}
+
+impl Replies {
+    fn new(n: u8, f: u8) -> Self {
+        Replies {
+            n,
+            quorum: n / 2 + 1,
+            d: (n - f) * COUNT,
+            w: n * COUNT,
+            masks: fault_masks(n, f),
+            rows: round_robin(n, COUNT, COUNT, n * COUNT),
+        }
+    }
+
+    fn case(&self) -> ReplyCase {
+        let (n, quorum, d, w) = (self.n, self.quorum, self.d, self.w);
+        let replies: Vec<_> = (0..).zip(rust_rows(&self.rows)).collect();
+        let value = VALUE.into();
+        ReplyCase::new(n, 0, quorum, &self.masks, d, BALLOT, value, w, &replies)
+    }
+
+    fn open(&self) -> Tally {
+        let (n, quorum) = (self.n.into(), self.quorum.into());
+        let (d, w) = (self.d.into(), self.w.into());
+        Tally::open(n, quorum, d, w, BALLOT, 0, VALUE).unwrap()
+    }
+
+    fn count(&self, tally: &mut Tally, source: u8) -> Status {
+        let row = self.rows[usize::from(source)];
+        let counted = tally.accept_reply(source.into(), BALLOT, 0, VALUE, row, &self.masks);
+        counted.unwrap()
+    }
+
+    /// Compares the answers to each reply.
+    fn compare(&self) {
+        let (n, quorum, d, value) = (self.n, self.quorum, self.d, VALUE.into());
+        let mut judge = api::Tally::open(n, 0, quorum, &self.masks, d, BALLOT, value).unwrap();
+        let mut tally = self.open();
+        for (source, row) in (0..).zip(rust_rows(&self.rows)) {
+            let answer = match self.count(&mut tally, source) {
+                Status::Waiting => Reply::Pending,
+                Status::Committed => Reply::Committed,
+                Status::AlreadyCommitted => Reply::Ignored,
+            };
+            let judged = judge.reply(source, BALLOT, value, self.w, row);
+            assert_eq!(judged, Ok(answer));
+        }
+    }
 }
