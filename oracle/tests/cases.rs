@@ -1,8 +1,8 @@
 //! The prepared inputs of a benchmark answer as the functions do.
 
 use oracle::api::{
-    self, CoverCase, FaultCase, GossipCase, Peer, PlanCase, PolicyCase, Profile, ReplyCase, Row,
-    Total,
+    self, CopiesCase, CoverCase, FaultCase, GossipCase, LayoutCase, Peer, PlanCase, PolicyCase,
+    Profile, ReplyCase, Row, SurvivalCase, Total, UnreliabilityCase,
 };
 
 const NO_PROFILE: Profile = Profile {
@@ -30,6 +30,39 @@ fn cover() {
     let acks = rows([1, 2, 4]).map(Some);
     assert!(CoverCase::new(3, &[1, 2, 4], 3, &acks).run(2));
     assert!(!CoverCase::new(3, &[1, 2, 4], 3, &acks).run(3));
+}
+
+#[test]
+fn survival() {
+    assert!(SurvivalCase::new(3, &[1, 2, 4], 0b110).run());
+    assert!(!SurvivalCase::new(3, &[1, 2, 4], 0b100).run());
+}
+
+#[test]
+fn layout() {
+    let case = LayoutCase::new(4, &[1], 3, 4, &[4, 2, 2, 1], Total::AtMost(10));
+    assert_eq!(case.rows(), 5);
+    assert!(case.commits());
+    assert!(!LayoutCase::new(4, &[1], 3, 4, &[4, 2, 1, 0], Total::AtMost(10)).commits());
+    assert_eq!(CopiesCase::new(4, 20, Total::AtMost(30)).run(), 20);
+}
+
+#[test]
+fn profile() {
+    let profile = Profile {
+        probs: Some((vec![0.5, 0.25], 0.1)),
+        ..NO_PROFILE
+    };
+    assert_eq!(UnreliabilityCase::new(2, &profile).run(1, 0.5), 0.25);
+    assert!(api::run_profile(2, "probs:0.5,0.25@0.1"));
+    assert!(!api::run_profile(2, "probs:0.5@0.1"));
+}
+
+#[test]
+fn small() {
+    assert_eq!(api::run_floor(12, 3, 2, 4), 8);
+    assert!(api::run_init(3, 6, 4, "3"));
+    assert!(!api::run_init(3, 6, 4, "1"));
 }
 
 #[test]

@@ -5,7 +5,7 @@ use std::collections::HashMap;
 use std::hint::black_box;
 
 use super::super::ReplicaBookkeeping;
-use super::super::assignment::{self, Assignment};
+use super::super::assignment::{self, Assignment, TotalShards};
 use super::super::reliability::{ReliabilityProfile, Tolerance};
 use super::{CrosswordReplica, Model, Peer, Profile, Qdisc, Row, Tally, Total, convert};
 use crate::server::ReplicaId;
@@ -51,6 +51,67 @@ impl CoverCase {
 
     pub fn run(&self, d: u8) -> bool {
         self.tolerance.covers(&self.acks, d)
+    }
+}
+
+/// `Tolerance::survived_by`.
+pub struct SurvivalCase {
+    tolerance: Tolerance,
+    heard: Bitmap,
+}
+
+impl SurvivalCase {
+    pub fn new(n: u8, masks: &[u64], heard: u64) -> Self {
+        SurvivalCase {
+            tolerance: convert::tolerance(n, masks),
+            heard: convert::mask_bitmap(n, heard),
+        }
+    }
+
+    pub fn run(&self) -> bool {
+        self.tolerance.survived_by(&self.heard)
+    }
+}
+
+/// `assignment::layout_rows` and `assignment::layout_commits`.
+pub struct LayoutCase {
+    tolerance: Tolerance,
+    quorum: u8,
+    d: u8,
+    loads: Vec<u8>,
+    answered: Vec<Option<u8>>,
+    total: TotalShards,
+}
+
+impl LayoutCase {
+    /// Every replica answers.
+    pub fn new(n: u8, masks: &[u64], quorum: u8, d: u8, loads: &[u8], total: Total) -> Self {
+        LayoutCase {
+            tolerance: convert::tolerance(n, masks),
+            quorum,
+            d,
+            loads: loads.to_vec(),
+            answered: loads.iter().copied().map(Some).collect(),
+            total: convert::total(total),
+        }
+    }
+
+    /// The width of `layout_rows`.
+    pub fn rows(&self) -> u8 {
+        black_box(assignment::layout_rows(self.d, &self.loads, self.total)).0
+    }
+
+    /// Whether `layout_commits` says that it commits.
+    pub fn commits(&self) -> bool {
+        let (tolerance, quorum) = (&self.tolerance, self.quorum);
+        black_box(assignment::layout_commits(
+            tolerance,
+            quorum,
+            self.d,
+            &self.answered,
+            self.total,
+        ))
+        .2
     }
 }
 
@@ -111,6 +172,63 @@ impl PlanCase {
     }
 }
 
+/// The last lines of `CrosswordReplica::pick_assignment`: full copies.
+pub struct CopiesCase {
+    replica: CrosswordReplica,
+    d: u8,
+    total: TotalShards,
+}
+
+impl CopiesCase {
+    pub fn new(n: u8, d: u8, total: Total) -> Self {
+        CopiesCase {
+            replica: CrosswordReplica::stand_in(0, n + 1, convert::tolerance(n, &[0])),
+            d,
+            total: convert::total(total),
+        }
+    }
+
+    /// The width.
+    pub fn run(&self) -> u8 {
+        black_box(self.replica.full_copies(self.d, self.total)).1
+    }
+}
+
+/// `ReliabilityProfile::unreliability`.
+pub struct UnreliabilityCase {
+    profile: ReliabilityProfile,
+}
+
+impl UnreliabilityCase {
+    pub fn new(n: u8, profile: &Profile) -> Self {
+        UnreliabilityCase {
+            profile: convert::profile(n, profile),
+        }
+    }
+
+    /// Not inlined, so that it is timed across a call, as a function of a library is.
+    #[inline(never)]
+    pub fn run(&self, peer: u8, down: f64) -> f64 {
+        self.profile.unreliability(peer, down)
+    }
+}
+
+/// `min_shards_per_replica`, across a call as in [`UnreliabilityCase::run`].
+#[inline(never)]
+pub fn run_floor(d: u8, majority: u8, f: u8, alive: u8) -> u8 {
+    CrosswordReplica::min_shards_per_replica(d, majority, f, alive)
+}
+
+/// `ReliabilityProfile::parse`: whether it reads the text. What it read is dropped.
+pub fn run_profile(n: u8, text: &str) -> bool {
+    black_box(ReliabilityProfile::parse(n, text)).is_ok()
+}
+
+/// `parse_init_assignment`, as [`run_profile`].
+pub fn run_init(n: u8, total: u8, d: u8, text: &str) -> bool {
+    black_box(CrosswordReplica::parse_init_assignment(n, total, d, text)).is_ok()
+}
+
 /// `pick_assignment_policy`.
 pub struct PolicyCase {
     adaptive: bool,
@@ -169,7 +287,7 @@ impl PolicyCase {
         }
     }
 
-    pub(super) fn answer(&self, size: usize) -> &Vec<Bitmap> {
+    fn answer(&self, size: usize) -> &Vec<Bitmap> {
         CrosswordReplica::pick_assignment_policy(
             self.adaptive,
             self.balanced,
@@ -190,6 +308,11 @@ impl PolicyCase {
     /// The number of rows that are handed back.
     pub fn run(&self, size: usize) -> usize {
         black_box(self.answer(size)).len()
+    }
+
+    /// The rows, converted.
+    pub fn rows(&self, size: usize) -> Vec<Row> {
+        convert::rows_of(self.answer(size))
     }
 }
 

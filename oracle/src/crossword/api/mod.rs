@@ -17,7 +17,10 @@ use super::stand_ins::CrosswordReplica;
 use super::{PerfModel, SummersetError, assignment};
 use convert::{masks_of, rows_of};
 
-pub use cases::{CoverCase, FaultCase, GossipCase, PlanCase, PolicyCase, ReplyCase};
+pub use cases::{
+    CopiesCase, CoverCase, FaultCase, GossipCase, LayoutCase, PlanCase, PolicyCase, ReplyCase,
+    SurvivalCase, UnreliabilityCase, run_floor, run_init, run_profile,
+};
 pub use tally::{Reply, Tally};
 
 /// A set of shards: shard i is bit i % 64 of word i / 64.
@@ -311,7 +314,7 @@ pub fn policy(
         let case = PolicyCase::new(
             adaptive, balanced, w, init, brr, d, majority, f, models, threshold, qdisc, n, alive,
         );
-        Ok(rows_of(case.answer(size)))
+        Ok(case.rows(size))
     })
 }
 
