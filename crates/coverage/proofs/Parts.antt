@@ -3,9 +3,11 @@
 use mathlib.Core.Path.{_≡_, refl, sym, ap, _∙_}
 use mathlib.Core.Bool.{Bool, true, false, cond, not, _&&_}
 use mathlib.Core.List.{List}
-use Prim.Native.Nat.{ℕ, _+_, _≤_, _<_}
-use native.Mathlib.Nat.{le-antisymm}
+use Prim.Native.Nat.{ℕ, zero, suc, _+_, _-_, _*_, _^_, _≤_, _<_}
+use native.Mathlib.Nat.{le-antisymm, zero-mul, mul-zero, mul-le-mul, mul-le-mul-left}
 use native.Mathlib.Numerals.{add-one}
+use native.Mathlib.Omega.{arith}
+use lib.Dec.{eqb}
 use lib.Bits.{bitOr}
 use lib.ListN.{length, getD, drop}
 use borrow.Author.Tests.{eq-eqb, ne-eqb, not-true, not-false}
@@ -13,17 +15,26 @@ use Rattle.lists.specs.All.{any}
 use Rattle.lists.proofs.Loops.{Missed, miss, hit}
 use Rattle.coverage.specs.Coverage.{shareOf, unionOf, completes}
 
--- ---- a replica's share: a is whether it is heard, b whether it is in the set; x is its row
-pub unheard : (h f a : Bool) (x : ℕ) → a ≡ h → not a ≡ true → 0 ≡ cond (h && not f) x 0
-unheard h f a x p q = simp (sym p ∙ not-true a q)
+-- ---- a replica's share: h and f are its bits of those heard and of the set; x is its row
+module _ (x h f : ℕ) (heard : h < 2) (faulty : f < 2) where
+  pub flag-small : h * (1 - f) < 2 ^ 64
+  flag-small = let k : h * (1 - f) ≤ 1 * 1 = mul-le-mul {n₂ = 1} {m₂ = 1} (omega arith) (omega arith) in omega arith
 
-pub faulty : (h f a b : Bool) (x : ℕ) → a ≡ h → not a ≡ false → b ≡ f → b ≡ true → 0 ≡ cond (h && not f) x 0
-faulty h f a b x p q r s = simp (sym p ∙ not-false a q, sym r ∙ s)
+  pub part-small : x < 2 ^ 64 → x * (h * (1 - f)) < 2 ^ 64
+  part-small l =
+      let k : h * (1 - f) ≤ 1 * 1 = mul-le-mul {n₂ = 1} {m₂ = 1} (omega arith) (omega arith) in
+      let u : x * (h * (1 - f)) ≤ x * 1 = mul-le-mul-left x (omega arith) in
+      omega arith
 
-pub kept : (h f a b : Bool) (x : ℕ) → a ≡ h → not a ≡ false → b ≡ f → b ≡ false → x ≡ cond (h && not f) x 0
-kept h f a b x p q r s = simp (sym p ∙ not-false a q, sym r ∙ s)
-
-pub ruleset shares = (unheard, faulty, kept)
+  pub part-is : x * (h * (1 - f)) ≡ cond (eqb h 1 && not (eqb f 1)) x 0
+  part-is = go h f heard faulty
+    where
+      go : (h f : ℕ) → h < 2 → f < 2 → x * (h * (1 - f)) ≡ cond (eqb h 1 && not (eqb f 1)) x 0
+      go zero f a b = rw (zero-mul (1 - f)) (mul-zero x)
+      go (suc zero) zero a b = omega arith
+      go (suc zero) (suc zero) a b = mul-zero x
+      go (suc zero) (suc (suc f)) a b = absurd (omega arith)
+      go (suc (suc h)) f a b = absurd (omega arith)
 
 -- ---- a loop that unites the shares of the replicas from 0 on: where it starts, after a turn, and at its end
 module _ (row : ℕ → ℕ) (heard fault : ℕ) where

@@ -146,19 +146,16 @@ fn united(n: usize, heard: u64, rows: &[u64], fault: u64) -> u64
     acc
 }
 
-// The row of the replica s, if it is heard and not in the set; else no shard.
+// The row of the replica s, if it is heard and not in the set; else no shard. No branch on either: which way one would go can't be foreseen.
 fn share(heard: u64, rows: &[u64], fault: u64, s: ReplicaId) -> u64
     requires { ⌜ s .0 < length (now rows) ⌝ }
     ensures { λ r. ⌜ r ≡ shareOf (rowIn (now (rows .entry))) heard fault (s .0) ⌝ }
 {
-    if !bitmap::has_replica(heard, s) {
-        return 0;
-    }
-    if bitmap::has_replica(fault, s) {
-        return 0;
-    }
     let k = s.0;
-    rows[k]
+    if 64 <= k {
+        return 0;
+    }
+    rows[k] * ((heard >> k) % 2 * (1 - (fault >> k) % 2))
 }
 
 // Whether some listed set contains every replica not heard. A part: n has been tested.
