@@ -1,15 +1,16 @@
 -- One step of each loop over a text, as its invariant has it: what is left of the text says the same as the whole. Assumes nothing.
 use mathlib.Core.Path.{_≡_, refl, sym, ap, _∙_}
-use mathlib.Core.Bool.{Bool, true, false, cond, _&&_}
+use mathlib.Core.Bool.{Bool, true, false, cond, _&&_, _||_, and-assoc, and-true, or-assoc, or-false, true≢false}
 use mathlib.Core.List.{List, [], _∷_, _++_, reverse, reverse-append, reverse-reverse}
 use Prim.Native.Nat.{ℕ, zero, suc, _+_, _-_, _*_, _≤_, _<_}
 use native.Mathlib.Omega.{arith}
 use native.Mathlib.Numerals.{add-one}
+use native.Mathlib.Nat.{zero-add}
 use lib.Dec.{leb, eqb}
-use lib.ListN.{length, getD, drop, take, drop-of-length-le}
-use lib.Seq.{drop-cons, take-suc}
+use lib.ListN.{length, getD, drop, take, length-drop, drop-of-length-le}
+use lib.Seq.{drop-cons, drop-drop, take-suc, getD-drop}
 use borrow.Author.Tests.{lt-leb, le-leb, eq-eqb, ne-eqb}
-use Rattle.lists.specs.All.{all}
+use Rattle.lists.specs.All.{all, any}
 use Rattle.bitmap.specs.Mask.{withBit}
 use Rattle.refusals.specs.Numbers.{NUMERAL}
 use Rattle.refusals.specs.Outcome.{Outcome, refused, accepted}
@@ -38,6 +39,37 @@ module _ (p : ℕ → Bool) (i n : ℕ) (s : List ℕ) (e : n ≡ i + cutBy p (d
   cut-end h =
       let step : cutBy p (drop i s) ≡ 0 = simp (drop-of-length-le s h) in
       omega arith
+
+-- k bytes at once, none of which passes
+over-none : (p : ℕ → Bool) (k : ℕ) (s : List ℕ) → k ≤ length s → any p (take k s) ≡ false → cutBy p s ≡ k + cutBy p (drop k s)
+unfolding cutBy
+over-none p zero s h e = sym (zero-add _)
+over-none p (suc k) [] h e = absurd (omega arith)
+over-none p (suc k) (b ∷ bs) h e = go (p b) e (over-none p k bs (omega arith))
+  where
+    go : (t : Bool) → (t || any p (take k bs)) ≡ false → (any p (take k bs) ≡ false → cutBy p bs ≡ k + cutBy p (drop k bs)) → cond t 0 (suc (cutBy p bs)) ≡ suc k + cutBy p (drop k bs)
+    go true q ih = absurd (true≢false q)
+    go false q ih = omega (arith, ih q)
+
+pub cut-over : (p : ℕ → Bool) (i k n : ℕ) (s : List ℕ) → n ≡ i + cutBy p (drop i s) → i + k ≤ length s → any p (take k (drop i s)) ≡ false → n ≡ i + k + cutBy p (drop (i + k) s)
+cut-over p i k n s e h q =
+    let step : cutBy p (drop i s) ≡ k + cutBy p (drop (i + k) s) = over-none p k (drop i s) (rw length-drop (omega arith)) q ∙ rw drop-drop in
+    omega arith
+
+-- ---- tests without an early end: r is what the bytes so far said
+module _ (p : ℕ → Bool) (i : ℕ) (s : List ℕ) (r : Bool) (e : (r && all p (drop i s)) ≡ all p s) where
+  pub all-next : {q : Bool} → i < length s → q ≡ p (getD s i 0) → ((r && q) && all p (drop (i + 1) s)) ≡ all p s
+  all-next h t = rw (add-one, t) (and-assoc r (p (getD s i 0)) (all p (drop (suc i) s))) ∙ sym (ap (λ (xs : List ℕ). r && all p xs) (drop-cons s i 0 h)) ∙ e
+
+  pub all-end : length s ≤ i → r ≡ all p s
+  all-end h = sym (and-true r) ∙ sym (ap (λ (xs : List ℕ). r && all p xs) (drop-of-length-le s h)) ∙ e
+
+any-last : (p : ℕ → Bool) (s : List ℕ) (b : ℕ) → any p (s ++ (b ∷ [])) ≡ (any p s || p b)
+any-last p [] b = or-false (p b)
+any-last p (c ∷ cs) b = ap (λ (t : Bool). p c || t) (any-last p cs b) ∙ sym (or-assoc (p c) (any p cs) (p b))
+
+pub any-next : (p : ℕ → Bool) (i j : ℕ) (s : List ℕ) {r : Bool} → r ≡ any p (take j (drop i s)) → i + j < length s → (r || p (getD s (i + j) 0)) ≡ any p (take (j + 1) (drop i s))
+any-next p i j s e h = rw (add-one, take-suc (drop i s) j 0 (rw length-drop (omega arith)), any-last, getD-drop, e)
 
 -- ---- blanks at the start
 module _ (i : ℕ) (s : List ℕ) where

@@ -3,7 +3,7 @@ ghost use mathlib.Core.Path.{_≡_};
 ghost use Prim.Native.Nat.{_+_, _≤_};
 ghost use lib.ListN.{length, take, drop};
 ghost use Rattle.lists.specs.All.{all};
-ghost use Rattle.numerals.specs.Text.{isText, isAscii, isSame, isBlank, trimStart, trimEnd, trim, cut};
+ghost use Rattle.numerals.specs.Text.{isText, isAscii, isSame, isBlank, trimStart, trimEnd, trim, cut, hasByte};
 ghost use Rattle.numerals.specs.TextLaws.{PartOf};
 ghost use Rattle.numerals.specs.Whole.{isDigit, isDigits, spelt, unplussed, wholeOf, belowOf, memberOf, membersOf, whole, members};
 
@@ -144,7 +144,7 @@ pub fn part(s: &[u8], p: usize, x: u8) -> &[u8]
 pub fn find(s: &[u8], x: u8) -> usize
     ensures { λ r. ⌜ r ≡ cut x (now (s .entry)) ⌝ }
 {
-    let mut i = 0;
+    let mut i = skip(s, x);
     while i < s.len() {
         if s[i] == x {
             return i;
@@ -152,6 +152,34 @@ pub fn find(s: &[u8], x: u8) -> usize
         i += 1;
     }
     i
+}
+
+// Past the blocks of 16 bytes at the start of s that have no x.
+fn skip(s: &[u8], x: u8) -> usize
+    ensures { λ r. ⌜ (r ≤ length (now (s .entry))) × (cut x (now (s .entry)) ≡ r + cut x (drop r (now (s .entry)))) ⌝ }
+{
+    let mut i = 0;
+    while 16 <= s.len() - i {
+        if has(s, i, x) {
+            return i;
+        }
+        i += 16;
+    }
+    i
+}
+
+// Whether x is one of the 16 bytes from i on. It ends at none of them early, so that all are compared at once.
+fn has(s: &[u8], i: usize, x: u8) -> bool
+    requires { ⌜ i + 16 ≤ length (now s) ⌝ }
+    ensures { λ r. ⌜ r ≡ hasByte x (take 16 (drop i (now (s .entry)))) ⌝ }
+{
+    let mut hit = false;
+    let mut j = 0;
+    while j < 16 {
+        hit = hit | (s[i + j] == x);
+        j += 1;
+    }
+    hit
 }
 
 // s from a on. What a part is as a list is said here, in `upto` and in `past`.
@@ -231,19 +259,17 @@ fn unplussed(s: &[u8]) -> &[u8]
     s
 }
 
-// Whether every byte of s is below 128.
+// Whether every byte of s is below 128. It ends at none of them early, so that many are compared at once.
 fn all_ascii(s: &[u8]) -> bool
     ensures { λ r. ⌜ r ≡ all isAscii (now (s .entry)) ⌝ }
 {
+    let mut ok = true;
     let mut i = 0;
     while i < s.len() {
-        if is_ascii(s[i]) {
-            i += 1;
-        } else {
-            return false;
-        }
+        ok = ok & is_ascii(s[i]);
+        i += 1;
     }
-    true
+    ok
 }
 
 fn is_ascii(b: u8) -> bool

@@ -22,7 +22,8 @@ find-spec =
     (tie.spec
     Inv-loop
     μ-loop
-    (λ c. (search needs, omega arith))
+    (λ c κs. search needs)
+    (λ c. search needs)
     (λ c. search needs)
     (λ c. cut-hit (isByte _) _ _ _ (c .before .before .before .loop .inv .1) (c .before .before .loop-test .taken) (eq-eqb _ _ (c .if1 .taken)))
     (λ c. search needs)
