@@ -1,7 +1,7 @@
 // The text of a reliability profile (ReliabilityProfile::parse).
 ghost use mathlib.Core.Path.{_≡_};
 ghost use mathlib.Core.Bool.{_||_};
-ghost use Prim.Native.Nat.{_<_, _≤_};
+ghost use Prim.Native.Nat.{_≤_};
 ghost use Rattle.refusals.specs.Outcome.{refused, accepted};
 ghost use Rattle.numerals.specs.Text.{isEmpty, isSame, trim, before, behind};
 ghost use Rattle.decimals.specs.Decimal.{decimal};
