@@ -39,9 +39,9 @@ module _ (n : ℕ) (p : Profile) (q : List ℕ) where
     unfolding domainIn
     domain-refused t = rw (lt-ltb _ _ h, sym e ∙ ap members t)
 
-    pub domain-read : {m : ℕ} {r : Profile} → w ≡ Memberships.Mask m → r ≡ withDomain p m → domainIn n p q ≡ accepted r
+    pub domain-read : {m : ℕ} → w ≡ Memberships.Mask m → domainIn n p q ≡ accepted (withDomain p m)
     unfolding domainIn
-    domain-read t f = rw (lt-ltb _ _ h, sym e ∙ ap members t, f)
+    domain-read t = rw (lt-ltb _ _ h, sym e ∙ ap members t)
 
 -- ---- a decimal: t is the trimmed part, and w what was answered of it
 module _ (ps : List Float) (q : List ℕ) {t : List ℕ} {w : Decimal} (f : t ≡ trim q) (e : decimal w ≡ decimalOf t) where

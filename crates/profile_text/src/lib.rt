@@ -1,11 +1,11 @@
 // The text of a reliability profile (ReliabilityProfile::parse).
 ghost use mathlib.Core.Path.{_≡_};
 ghost use mathlib.Core.Bool.{_||_};
-ghost use Prim.Native.Nat.{_<_, _≤_};
+ghost use Prim.Native.Nat.{_≤_};
 ghost use Rattle.refusals.specs.Outcome.{refused, accepted};
 ghost use Rattle.numerals.specs.Text.{isEmpty, isSame, trim, before, behind};
 ghost use Rattle.decimals.specs.Decimal.{decimal};
-ghost use Rattle.profile_text.specs.ProfileText.{nothing, withDomain, withWords, withRuntime, domainsIn, decimalsOf, thresholdOf, fitting, probsIn, noneName, namedIn, mechanismsOf, profileOf, parsed, decimals};
+ghost use Rattle.profile_text.specs.ProfileText.{nothing, withWords, withRuntime, domainsIn, decimalsOf, thresholdOf, fitting, probsIn, noneName, namedIn, mechanismsOf, profileOf, parsed, decimals};
 use decimals::Decimal;
 use numerals::Members;
 use profiles::Profile;
@@ -132,8 +132,9 @@ fn read_domains(n: usize, p: Profile, args: &[u8]) -> Parsed
                 return refused(no);
             }
             Members::Mask(m) => {
-                let v = with_domain(u, m);
-                u = v;
+                let k = u.domain_count;
+                u.domains[k] = m;
+                u.domain_count = k + 1;
             }
         }
         at = at + q.len();
@@ -227,17 +228,6 @@ fn with_words(p: Profile, count: usize, probs: [f64; 16], t: f64) -> Profile
     u.prob_count = count;
     u.probs = probs;
     u.threshold = t;
-    u
-}
-
-fn with_domain(p: Profile, m: u64) -> Profile
-    requires { ⌜ p .«domain_count» < 64 ⌝ }
-    ensures { λ r. ⌜ r ≡ withDomain p m ⌝ }
-{
-    let mut u = p;
-    let k = p.domain_count;
-    u.domains[k] = m;
-    u.domain_count = k + 1;
     u
 }
 
