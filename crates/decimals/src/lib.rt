@@ -20,6 +20,12 @@ pub enum Decimal {
     Value(f64),
 }
 
+// Whether bytes are digits, and what they then spell.
+struct Digits {
+    ok: bool,
+    value: u64,
+}
+
 // The nearest double to a decimal, ties to even.
 pub fn read_decimal(s: &[u8]) -> Decimal
     ensures { λ r. ⌜ decimal r ≡ decimalOf (now (s .entry)) ⌝ }
@@ -47,7 +53,9 @@ fn read_parts(negative: bool, i: &[u8], f: &[u8], raised: bool, lowers: bool, q:
       power = now (q .entry);
     }) ⌝ }
 {
-    if !is_well_formed(i, f, raised, q) {
+    let a = read_digits(i, 0);
+    let b = read_digits(f, a.value);
+    if !is_well_formed(i, f, a.ok, b.ok, raised, q) {
         return Decimal::Refused(refusals::NUMERAL);
     }
     if 15 < i.len() + f.len() {
@@ -56,16 +64,16 @@ fn read_parts(negative: bool, i: &[u8], f: &[u8], raised: bool, lowers: bool, q:
     if 4 < q.len() {
         return Decimal::Refused(refusals::DIGITS);
     }
-    let m = digits(i, f);
     let e = power(q);
     if lowers {
-        return fit(negative, m, 0, e + f.len());
+        return fit(negative, b.value, 0, e + f.len());
     }
-    fit(negative, m, e, f.len())
+    fit(negative, b.value, e, f.len())
 }
 
-// Whether these are digits, as many as there must be.
-fn is_well_formed(i: &[u8], f: &[u8], raised: bool, q: &[u8]) -> bool
+// Whether these are digits, as many as there must be. A part: a and b say whether i and f are.
+fn is_well_formed(i: &[u8], f: &[u8], a: bool, b: bool, raised: bool, q: &[u8]) -> bool
+    requires { ⌜ (a ≡ all isDigit (now i)) × (b ≡ all isDigit (now f)) ⌝ }
     ensures { λ r. ⌜ r ≡ isWellFormed (record {
       negative = false;
       whole = now (i .entry);
@@ -75,10 +83,10 @@ fn is_well_formed(i: &[u8], f: &[u8], raised: bool, q: &[u8]) -> bool
       power = now (q .entry);
     }) ⌝ }
 {
-    if !numerals::all_digits(i) {
+    if !a {
         return false;
     }
-    if !numerals::all_digits(f) {
+    if !b {
         return false;
     }
     if i.len() + f.len() == 0 {
@@ -104,12 +112,27 @@ fn fit(negative: bool, m: u64, ups: usize, downs: usize) -> Decimal
     Decimal::Value(scaled(negative, m, ups, downs))
 }
 
-// All the digits as one number. A part: they have been tested and counted.
-fn digits(i: &[u8], f: &[u8]) -> u64
-    requires { ⌜ (all isDigit (now i) ≡ true) × (all isDigit (now f) ≡ true) × (length (now i) + length (now f) ≤ 15) ⌝ }
-    ensures { λ r. ⌜ (r ≡ spelt (spelt 0 (now (i .entry))) (now (f .entry))) × (r < 10 ^ 15) ⌝ }
+// Whether every byte of s is a digit, and the number that they then spell after digits that are worth v, where there is room for it. One pass without a branch:
+// a digit is its byte modulo 16, and what is no digit counts for something else.
+fn read_digits(s: &[u8], v: u64) -> Digits
+    ensures { λ r. ⌜ (r .ok ≡ all isDigit (now (s .entry)))
+        × (all isDigit (now (s .entry)) ≡ true → (v + 1) * 10 ^ length (now (s .entry)) ≤ 10 ^ 15 → r .value ≡ spelt v (now (s .entry))) ⌝ }
 {
-    spelt(f, spelt(i, 0))
+    let mut ok = true;
+    let mut w = v;
+    let mut i = 0;
+    while i < s.len() {
+        ok = ok & numerals::is_digit(s[i]);
+        w = (w % 0x100_0000_0000_0000) * 10 + wide(s[i]) % 16;
+        i += 1;
+    }
+    Digits { ok: ok, value: w }
+}
+
+fn wide(b: u8) -> u64
+    ensures { λ r. ⌜ r ≡ b ⌝ }
+{
+    b as u64
 }
 
 // The number of the exponent. A part: its digits have been tested and counted.

@@ -234,7 +234,7 @@ pub fn all_digits(s: &[u8]) -> bool
     true
 }
 
-fn is_digit(b: u8) -> bool
+pub fn is_digit(b: u8) -> bool
     ensures { λ r. ⌜ r ≡ isDigit b ⌝ }
 {
     b'0' <= b && b <= b'9'

@@ -10,24 +10,26 @@ pub is-well-formed-spec : {M : Type 1} → statement M
 is-well-formed-spec =
     tie.close
     (tie.spec
-    (λ c κs. search needs)
-    (λ c. rw (sym (c .before .all-digits .ensures) ∙ not-true _ (c .if1 .taken)))
-    (λ c κs. search needs)
+    (λ c. let s = c .before .before .before .before in rw (sym (s .pre .0) ∙ not-true _ (c .if1 .taken)))
     (λ c.
-    let a = c .before .before in
-    rw (sym (a .before .all-digits .ensures) ∙ not-false _ (a .if1 .left), sym (c .before .all-digits2 .ensures) ∙ not-true _ (c .if2 .taken)))
+    let a = c .before in
+    let s = a .before .before .before .before in
+    rw (sym (s .pre .0) ∙ not-false _ (a .if1 .left), sym (s .pre .1) ∙ not-true _ (c .if2 .taken)))
     (λ c. search needs)
     (λ c.
     let b = c .before in
-    let a = b .before .before in
-    rw (sym (a .before .all-digits .ensures) ∙ not-false _ (a .if1 .left), sym (b .before .all-digits2 .ensures) ∙ not-false _ (b .if2 .left), le-ltb 0 _ (le-of-eq (c .if3 .taken))))
+    let a = b .before in
+    let s = a .before .before .before .before in
+    rw (sym (s .pre .0) ∙ not-false _ (a .if1 .left), sym (s .pre .1) ∙ not-false _ (b .if2 .left), le-ltb 0 _ (le-of-eq (c .if3 .taken))))
     (λ c.
     let b = c .before .before in
-    let a = b .before .before in
-    rw (sym (a .before .all-digits .ensures) ∙ not-false _ (a .if1 .left), sym (b .before .all-digits2 .ensures) ∙ not-false _ (b .if2 .left), lt-ltb 0 _ (pos-of-ne-zero (c .before .if3 .left)), c .if4 .taken))
+    let a = b .before in
+    let s = a .before .before .before .before in
+    rw (sym (s .pre .0) ∙ not-false _ (a .if1 .left), sym (s .pre .1) ∙ not-false _ (b .if2 .left), lt-ltb 0 _ (pos-of-ne-zero (c .before .if3 .left)), c .if4 .taken))
     (λ c κs. search needs)
     (λ c.
     let b = c .before .before .before in
-    let a = b .before .before in
-    rw (sym (a .before .all-digits .ensures) ∙ not-false _ (a .if1 .left), sym (b .before .all-digits2 .ensures) ∙ not-false _ (b .if2 .left), lt-ltb 0 _ (pos-of-ne-zero (c .before .before .if3 .left)), c .before .if4 .left)
+    let a = b .before in
+    let s = a .before .before .before .before in
+    rw (sym (s .pre .0) ∙ not-false _ (a .if1 .left), sym (s .pre .1) ∙ not-false _ (b .if2 .left), lt-ltb 0 _ (pos-of-ne-zero (c .before .before .if3 .left)), c .before .if4 .left)
     (c .is-digits .ensures)))

@@ -1,13 +1,15 @@
 -- `decimals::read_parts` meets its contract. Assumes nothing.
-use mathlib.Core.Path.{sym, _∙_}
+use mathlib.Core.Path.{_≡_, sym, _∙_}
 use mathlib.Core.Bool.{Bool, false}
 use mathlib.Core.List.{List}
 use Prim.Native.Nat.{ℕ}
 use native.Mathlib.Nat.{zero-add}
+use native.Mathlib.Omega.{arith}
 use borrow.Author.Needs.{needs}
 use borrow.Author.Tests.{le-leb, lt-leb, not-true, not-false}
 use Rattle.decimals.specs.Decimal.{Written}
 use Rattle.decimals.specs.DigitLaws.{formed}
+use Rattle.decimals.proofs.Steps.{digits-spelt}
 use Rattle.decimals.proofs.read_parts.Statement.{statement}
 use Rattle.decimals.proofs.read_parts.Tie as tie
 
@@ -20,6 +22,8 @@ read-parts-spec =
     tie.close
     (tie.spec
     (λ c κs. search needs)
+    (λ c κs. search needs)
+    (λ c κs. (c .before .read-digits .ensures .0, c .read-digits2 .ensures .0))
     (λ c. rw (sym (c .before .is-well-formed .ensures) ∙ not-true _ (c .if1 .taken)))
     (λ c. search needs)
     (λ c.
@@ -30,26 +34,45 @@ read-parts-spec =
     rw (sym (g .before .is-well-formed .ensures) ∙ not-false _ (g .if1 .left), le-leb _ _ (c .before .if2 .left), lt-leb _ _ (c .if3 .taken)))
     (λ c κs.
     let g = c .before .before in
-    let a = g .before .before .before .before .before .args in
-    let d = formed (parts (a .i .now) (a .f .now) (a .raised) (a .q .now)) (sym (g .before .is-well-formed .ensures) ∙ not-false _ (g .if1 .left)) in
-    (d .whole-digits, d .fraction-digits, c .before .if2 .left))
-    (λ c κs.
-    let g = c .before .before .before in
-    let s = g .before .before .before .before .before in
+    let s = g .before .before .before .before .before .before .before in
     let d = formed (parts (s .args .i .now) (s .args .f .now) (s .args .raised) (s .args .q .now)) (sym (g .before .is-well-formed .ensures) ∙ not-false _ (g .if1 .left)) in
-    (d .power-digits (s .pre), c .before .if3 .left))
+    (d .power-digits (s .pre), c .if3 .left))
     (λ c. search needs)
-    (λ c κs. search needs)
+    (λ c κs.
+    let p = c .before in
+    let h = p .before in
+    let g = h .before .before in
+    let b = g .before .before in
+    let s = b .before .before .before .before .before in
+    let d = formed (parts (s .args .i .now) (s .args .f .now) (s .args .raised) (s .args .q .now)) (sym (g .before .is-well-formed .ensures) ∙ not-false _ (g .if1 .left)) in
+    let e = digits-spelt (s .args .i .now) (s .args .f .now) (d .whole-digits) (d .fraction-digits) (h .before .if2 .left) _ _ (b .before .read-digits .ensures .1) (b .read-digits2 .ensures .1) in
+    (e .1, omega arith, omega arith))
     (λ c.
     let p = c .before .before in
-    let h = p .before .before in
+    let h = p .before in
     let g = h .before .before in
+    let b = g .before .before in
+    let s = b .before .before .before .before .before in
+    let d = formed (parts (s .args .i .now) (s .args .f .now) (s .args .raised) (s .args .q .now)) (sym (g .before .is-well-formed .ensures) ∙ not-false _ (g .if1 .left)) in
+    let e = digits-spelt (s .args .i .now) (s .args .f .now) (d .whole-digits) (d .fraction-digits) (h .before .if2 .left) _ _ (b .before .read-digits .ensures .1) (b .read-digits2 .ensures .1) in
     rw (sym (g .before .is-well-formed .ensures) ∙ not-false _ (g .if1 .left), le-leb _ _ (h .before .if2 .left), le-leb _ _ (h .if3 .left), c .before .if4 .taken)
-    (c .fit .ensures ∙ rw (p .power .ensures .0, p .before .digits .ensures .0)))
-    (λ c κs. search needs)
+    (c .fit .ensures ∙ rw (p .power .ensures .0, e .0)))
+    (λ c κs.
+    let p = c .before in
+    let h = p .before in
+    let g = h .before .before in
+    let b = g .before .before in
+    let s = b .before .before .before .before .before in
+    let d = formed (parts (s .args .i .now) (s .args .f .now) (s .args .raised) (s .args .q .now)) (sym (g .before .is-well-formed .ensures) ∙ not-false _ (g .if1 .left)) in
+    let e = digits-spelt (s .args .i .now) (s .args .f .now) (d .whole-digits) (d .fraction-digits) (h .before .if2 .left) _ _ (b .before .read-digits .ensures .1) (b .read-digits2 .ensures .1) in
+    (e .1, omega arith, omega arith))
     (λ c.
     let p = c .before .before in
-    let h = p .before .before in
+    let h = p .before in
     let g = h .before .before in
+    let b = g .before .before in
+    let s = b .before .before .before .before .before in
+    let d = formed (parts (s .args .i .now) (s .args .f .now) (s .args .raised) (s .args .q .now)) (sym (g .before .is-well-formed .ensures) ∙ not-false _ (g .if1 .left)) in
+    let e = digits-spelt (s .args .i .now) (s .args .f .now) (d .whole-digits) (d .fraction-digits) (h .before .if2 .left) _ _ (b .before .read-digits .ensures .1) (b .read-digits2 .ensures .1) in
     rw (sym (g .before .is-well-formed .ensures) ∙ not-false _ (g .if1 .left), le-leb _ _ (h .before .if2 .left), le-leb _ _ (h .if3 .left), c .before .if4 .left, zero-add)
-    (c .fit2 .ensures ∙ rw (p .power .ensures .0, p .before .digits .ensures .0))))
+    (c .fit2 .ensures ∙ rw (p .power .ensures .0, e .0))))
