@@ -1,13 +1,13 @@
 -- A minus sign at the start of a text, and one step of the loop over digits. Assumes nothing.
 use mathlib.Core.Path.{_≡_, refl, sym, _∙_}
-use mathlib.Core.Bool.{true, false}
+use mathlib.Core.Bool.{true, false, _&&_, and-eq-true-iff}
 use mathlib.Core.List.{List, [], _∷_}
 use Prim.Native.Nat.{ℕ, suc, _+_, _-_, _*_, _%_, _^_, _≤_, _<_}
 use native.Mathlib.Nat.{mul-le-mul-left, sub-zero}
 use native.Mathlib.Numerals.{add-one}
 use native.Mathlib.Omega.{arith}
-use borrow.Author.Tests.{ltb-false}
-use lib.Dec.{eqb, ltb}
+use borrow.Author.Tests.{leb-true, ltb-false}
+use lib.Dec.{leb, eqb, ltb}
 use lib.ListN.{length, getD, drop, drop-of-length-le}
 use lib.Seq.{drop-cons}
 use Rattle.lists.specs.All.{all}
@@ -84,6 +84,12 @@ digits-spelt i f a b h v w g k =
     let p = g a (room-for (length i) 15 (omega arith)) in
     let q : w ≡ spelt (spelt 0 i) f = k b (rw p (room-after i f a h)) ∙ rw p in
     (q, rw q (both-small i f a h b))
+
+-- ---- the power of ten that is left
+pub scale-means : (ups downs : ℕ) → (leb ups (downs + 22) && leb downs (ups + 22)) ≡ true → (ups ≤ downs + 22) × (downs ≤ ups + 22)
+scale-means ups downs e =
+    let p = and-eq-true-iff (leb ups (downs + 22)) (leb downs (ups + 22)) .0 e in
+    (leb-true ups (downs + 22) (p .0), leb-true downs (ups + 22) (p .1))
 
 -- ---- no letter, no exponent
 pub no-exponent : (u x q : List ℕ) (c : ℕ) → x ≡ drop (c + 1) u → q ≡ unsigned x → ltb c (length u) ≡ false → q ≡ []

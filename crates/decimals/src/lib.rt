@@ -1,6 +1,6 @@
 // Decimals: a double from digits, a point and an exponent.
 ghost use mathlib.Core.Path.{_≡_};
-ghost use mathlib.Core.Bool.{true, false, cond, _&&_};
+ghost use mathlib.Core.Bool.{true, false, _&&_};
 ghost use mathlib.Core.List.{[]};
 ghost use Prim.Native.Nat.{_+_, _*_, _^_, _≤_, _<_};
 ghost use lib.Dec.{leb};
@@ -8,8 +8,6 @@ ghost use lib.Ieee.{binary64, round};
 ghost use lib.Ieee.Exact.{HasValue};
 ghost use lib.ListN.{length};
 ghost use Rattle.lists.specs.All.{all};
-ghost use Rattle.refusals.specs.Numbers.{DIGITS};
-ghost use Rattle.refusals.specs.Outcome.{refused, accepted};
 ghost use Rattle.numerals.specs.Text.{cutBy};
 ghost use Rattle.numerals.specs.Whole.{isDigit, spelt};
 ghost use Rattle.decimals.specs.Decimal.{isNegative, isSign, unsigned, isE, isWellFormed, readOf, decimalOf, decimal};
@@ -66,9 +64,16 @@ fn read_parts(negative: bool, i: &[u8], f: &[u8], raised: bool, lowers: bool, q:
     }
     let e = power(q);
     if lowers {
-        return fit(negative, b.value, 0, e + f.len());
+        let downs = e + f.len();
+        if !is_scale(0, downs) {
+            return Decimal::Refused(refusals::DIGITS);
+        }
+        return Decimal::Value(scaled(negative, b.value, 0, downs));
     }
-    fit(negative, b.value, e, f.len())
+    if !is_scale(e, f.len()) {
+        return Decimal::Refused(refusals::DIGITS);
+    }
+    Decimal::Value(scaled(negative, b.value, e, f.len()))
 }
 
 // Whether these are digits, as many as there must be. A part: a and b say whether i and f are.
@@ -98,18 +103,15 @@ fn is_well_formed(i: &[u8], f: &[u8], a: bool, b: bool, raised: bool, q: &[u8]) 
     numerals::is_digits(q)
 }
 
-// m * 10 ^ ups / 10 ^ downs with its sign, if the power that is left is from -22 to 22. A part: the digits have been counted.
-fn fit(negative: bool, m: u64, ups: usize, downs: usize) -> Decimal
-    requires { ⌜ (m < 10 ^ 15) × (ups ≤ 10 ^ 5) × (downs ≤ 10 ^ 5) ⌝ }
-    ensures { λ r. ⌜ decimal r ≡ cond (leb ups (downs + 22) && leb downs (ups + 22)) (accepted (round binary64 negative (m * 10 ^ ups) (10 ^ downs))) (refused DIGITS) ⌝ }
+// Whether the power of ten that is left of 10 ^ ups / 10 ^ downs is from -22 to 22. A part: both are small.
+fn is_scale(ups: usize, downs: usize) -> bool
+    requires { ⌜ (ups ≤ 10 ^ 5) × (downs ≤ 10 ^ 5) ⌝ }
+    ensures { λ r. ⌜ r ≡ (leb ups (downs + 22) && leb downs (ups + 22)) ⌝ }
 {
     if downs + 22 < ups {
-        return Decimal::Refused(refusals::DIGITS);
+        return false;
     }
-    if ups + 22 < downs {
-        return Decimal::Refused(refusals::DIGITS);
-    }
-    Decimal::Value(scaled(negative, m, ups, downs))
+    downs <= ups + 22
 }
 
 // Whether every byte of s is a digit, and the number that they then spell after digits that are worth v, where there is room for it. One pass without a branch:

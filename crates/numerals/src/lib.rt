@@ -220,7 +220,7 @@ pub fn is_digits(s: &[u8]) -> bool
 }
 
 // Whether every byte of s is a digit.
-pub fn all_digits(s: &[u8]) -> bool
+fn all_digits(s: &[u8]) -> bool
     ensures { λ r. ⌜ r ≡ all isDigit (now (s .entry)) ⌝ }
 {
     let mut i = 0;
