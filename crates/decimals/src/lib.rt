@@ -1,6 +1,6 @@
 // Decimals: a double from digits, a point and an exponent.
 ghost use mathlib.Core.Path.{_≡_};
-ghost use mathlib.Core.Bool.{true, false, _&&_};
+ghost use mathlib.Core.Bool.{true, false, cond, _&&_};
 ghost use mathlib.Core.List.{[]};
 ghost use Prim.Native.Nat.{_+_, _*_, _^_, _≤_, _<_};
 ghost use lib.Dec.{leb};
@@ -63,17 +63,12 @@ fn read_parts(negative: bool, i: &[u8], f: &[u8], raised: bool, lowers: bool, q:
         return Decimal::Refused(refusals::DIGITS);
     }
     let e = power(q);
-    if lowers {
-        let downs = e + f.len();
-        if !is_scale(0, downs) {
-            return Decimal::Refused(refusals::DIGITS);
-        }
-        return Decimal::Value(scaled(negative, b.value, 0, downs));
-    }
-    if !is_scale(e, f.len()) {
+    let ups = either(lowers, 0, e);
+    let downs = either(lowers, e, 0) + f.len();
+    if !is_scale(ups, downs) {
         return Decimal::Refused(refusals::DIGITS);
     }
-    Decimal::Value(scaled(negative, b.value, e, f.len()))
+    Decimal::Value(scaled(negative, b.value, ups, downs))
 }
 
 // Whether these are digits, as many as there must be. A part: a and b say whether i and f are.
@@ -101,6 +96,15 @@ fn is_well_formed(i: &[u8], f: &[u8], a: bool, b: bool, raised: bool, q: &[u8]) 
         return true;
     }
     numerals::is_digits(q)
+}
+
+fn either(first: bool, a: usize, b: usize) -> usize
+    ensures { λ r. ⌜ (r ≡ cond first a b) × (r ≤ a + b) ⌝ }
+{
+    if first {
+        return a;
+    }
+    b
 }
 
 // Whether the power of ten that is left of 10 ^ ups / 10 ^ downs is from -22 to 22. A part: both are small.

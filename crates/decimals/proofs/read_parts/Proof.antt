@@ -3,7 +3,7 @@ use mathlib.Core.Path.{_≡_, sym, ap, _∙_}
 use mathlib.Core.Bool.{Bool, false}
 use mathlib.Core.List.{List}
 use Prim.Native.Nat.{ℕ}
-use native.Mathlib.Nat.{zero-add}
+use native.Mathlib.Omega.{arith}
 use borrow.Author.Needs.{needs}
 use borrow.Author.Tests.{le-leb, lt-leb, not-true, not-false}
 use Rattle.refusals.specs.Outcome.{accepted}
@@ -37,68 +37,43 @@ read-parts-spec =
     let s = g .before .before .before .before .before .before .before in
     let d = formed (parts (s .args .i .now) (s .args .f .now) (s .args .raised) (s .args .q .now)) (sym (g .before .is-well-formed .ensures) ∙ not-false _ (g .if1 .left)) in
     (d .power-digits (s .pre), c .if3 .left))
-    (λ c. search needs)
+    (λ c κs. search needs)
     (λ c κs. search needs)
     (λ c.
-    let i = c .before in
-    let p = c .before .before .before in
+    let p = c .before .before in
+    omega (arith, p .before .before .if2 .left, p .power .ensures .1, c .either2 .ensures .1))
+    (λ c κs.
+    let p = c .before .before in
+    (omega (arith, p .power .ensures .1, c .before .either .ensures .1), omega (arith, p .before .before .if2 .left, p .power .ensures .1, c .either2 .ensures .1)))
+    (λ c.
+    let m = c .before in
+    let v = m .before in
+    let p = v .before .before in
     let h = p .before in
     let g = h .before .before in
-    let k = rw (p .power .ensures .0) at (sym (i .is-scale .ensures) ∙ not-true _ (c .if5 .taken)) in
-    rw (sym (g .before .is-well-formed .ensures) ∙ not-false _ (g .if1 .left), le-leb _ _ (h .before .if2 .left), le-leb _ _ (h .if3 .left), i .before .if4 .taken, k))
+    let k = rw (v .before .either .ensures .0, v .either2 .ensures .0, p .power .ensures .0) at (sym (m .is-scale .ensures) ∙ not-true _ (c .if4 .taken)) in
+    rw (sym (g .before .is-well-formed .ensures) ∙ not-false _ (g .if1 .left), le-leb _ _ (h .before .if2 .left), le-leb _ _ (h .if3 .left), k))
     (λ c κs.
-    let i = c .before in
-    let p = c .before .before .before in
+    let m = c .before in
+    let p = m .before .before .before in
     let h = p .before in
     let g = h .before .before in
     let b = g .before .before in
     let s = b .before .before .before .before .before in
     let d = formed (parts (s .args .i .now) (s .args .f .now) (s .args .raised) (s .args .q .now)) (sym (g .before .is-well-formed .ensures) ∙ not-false _ (g .if1 .left)) in
     let e = digits-spelt (s .args .i .now) (s .args .f .now) (d .whole-digits) (d .fraction-digits) (h .before .if2 .left) _ _ (b .before .read-digits .ensures .1) (b .read-digits2 .ensures .1) in
-    let k = scale-means _ _ (sym (i .is-scale .ensures) ∙ not-false _ (c .if5 .left)) in
+    let k = scale-means _ _ (sym (m .is-scale .ensures) ∙ not-false _ (c .if4 .left)) in
     (e .1, k .0, k .1))
     (λ c.
     let j = c .before in
-    let i = j .before in
-    let p = c .before .before .before .before in
+    let m = j .before in
+    let v = m .before in
+    let p = v .before .before in
     let h = p .before in
     let g = h .before .before in
     let b = g .before .before in
     let s = b .before .before .before .before .before in
     let d = formed (parts (s .args .i .now) (s .args .f .now) (s .args .raised) (s .args .q .now)) (sym (g .before .is-well-formed .ensures) ∙ not-false _ (g .if1 .left)) in
     let e = digits-spelt (s .args .i .now) (s .args .f .now) (d .whole-digits) (d .fraction-digits) (h .before .if2 .left) _ _ (b .before .read-digits .ensures .1) (b .read-digits2 .ensures .1) in
-    let k = rw (p .power .ensures .0) at (sym (i .is-scale .ensures) ∙ not-false _ (j .if5 .left)) in
-    rw (sym (g .before .is-well-formed .ensures) ∙ not-false _ (g .if1 .left), le-leb _ _ (h .before .if2 .left), le-leb _ _ (h .if3 .left), i .before .if4 .taken, k)
-    (ap accepted (c .scaled .ensures ∙ rw (p .power .ensures .0, e .0))))
-    (λ c κs. search needs)
-    (λ c.
-    let i = c .before in
-    let p = c .before .before .before in
-    let h = p .before in
-    let g = h .before .before in
-    let k = rw (p .power .ensures .0) at (sym (i .is-scale2 .ensures) ∙ not-true _ (c .if6 .taken)) in
-    rw (sym (g .before .is-well-formed .ensures) ∙ not-false _ (g .if1 .left), le-leb _ _ (h .before .if2 .left), le-leb _ _ (h .if3 .left), i .before .if4 .left, zero-add, k))
-    (λ c κs.
-    let i = c .before in
-    let p = c .before .before .before in
-    let h = p .before in
-    let g = h .before .before in
-    let b = g .before .before in
-    let s = b .before .before .before .before .before in
-    let d = formed (parts (s .args .i .now) (s .args .f .now) (s .args .raised) (s .args .q .now)) (sym (g .before .is-well-formed .ensures) ∙ not-false _ (g .if1 .left)) in
-    let e = digits-spelt (s .args .i .now) (s .args .f .now) (d .whole-digits) (d .fraction-digits) (h .before .if2 .left) _ _ (b .before .read-digits .ensures .1) (b .read-digits2 .ensures .1) in
-    let k = scale-means _ _ (sym (i .is-scale2 .ensures) ∙ not-false _ (c .if6 .left)) in
-    (e .1, k .0, k .1))
-    (λ c.
-    let j = c .before in
-    let i = j .before in
-    let p = c .before .before .before .before in
-    let h = p .before in
-    let g = h .before .before in
-    let b = g .before .before in
-    let s = b .before .before .before .before .before in
-    let d = formed (parts (s .args .i .now) (s .args .f .now) (s .args .raised) (s .args .q .now)) (sym (g .before .is-well-formed .ensures) ∙ not-false _ (g .if1 .left)) in
-    let e = digits-spelt (s .args .i .now) (s .args .f .now) (d .whole-digits) (d .fraction-digits) (h .before .if2 .left) _ _ (b .before .read-digits .ensures .1) (b .read-digits2 .ensures .1) in
-    let k = rw (p .power .ensures .0) at (sym (i .is-scale2 .ensures) ∙ not-false _ (j .if6 .left)) in
-    rw (sym (g .before .is-well-formed .ensures) ∙ not-false _ (g .if1 .left), le-leb _ _ (h .before .if2 .left), le-leb _ _ (h .if3 .left), i .before .if4 .left, zero-add, k)
-    (ap accepted (c .scaled2 .ensures ∙ rw (p .power .ensures .0, e .0)))))
+    let k = rw (v .before .either .ensures .0, v .either2 .ensures .0, p .power .ensures .0) at (sym (m .is-scale .ensures) ∙ not-false _ (j .if4 .left)) in
+    rw (sym (g .before .is-well-formed .ensures) ∙ not-false _ (g .if1 .left), le-leb _ _ (h .before .if2 .left), le-leb _ _ (h .if3 .left), k) (ap accepted (c .scaled .ensures ∙ rw (v .before .either .ensures .0, v .either2 .ensures .0, p .power .ensures .0, e .0)))))
