@@ -309,7 +309,7 @@ fn stop(s: &[u8]) -> usize
     e
 }
 
-fn is_blank(b: u8) -> bool
+pub fn is_blank(b: u8) -> bool
     ensures { λ r. ⌜ r ≡ isBlank b ⌝ }
 {
     if b < 9 {

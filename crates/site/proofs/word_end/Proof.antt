@@ -1,0 +1,27 @@
+-- `site::word_end` meets its contract. Assumes nothing.
+use Prim.Native.Nat.{_≤_, _-_}
+use borrow.Author.Needs.{needs}
+use lib.ListN.{length}
+use Rattle.site.proofs.word_end.Statement.{statement}
+use Rattle.site.proofs.word_end.Tie as tie
+
+abbrev Inv-loop : tie.InvT-loop
+Inv-loop s at i₀ i = (at ≤ i) × (i ≤ length s)
+
+abbrev μ-loop : tie.MeasureT-loop
+μ-loop s at i₀ i = length s - i
+
+pub word-end-spec : {M : Type 1} → statement M
+word-end-spec =
+    tie.close
+    (tie.spec
+    Inv-loop
+    μ-loop
+    (λ c. search needs)
+    (λ c. search needs)
+    (λ c κs. search needs)
+    (λ c. search needs)
+    (λ c. search needs)
+    (λ c. search needs)
+    (λ c. search needs)
+    (λ c. search needs))
