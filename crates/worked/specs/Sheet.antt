@@ -5,9 +5,8 @@ use mathlib.Core.List.{List, [], _∷_, map, foldl}
 use mathlib.Core.Option.{Option, none, some}
 use Prim.Native.Nat.{ℕ, _*_, _^_}
 use Prim.Native.String.{String}
-use lib.Count.{trailingZeros}
 use lib.ListN.{length, take, replicate}
-use lib.Ieee.{binary64, add, mul, div, ofInt, ofBits, toBits, isNan, lt, le, round, size, units, odd, span, climb}
+use lib.Ieee.{binary64, add, mul, div, ofInt, ofBits, toBits, le}
 use Rattle.lists.specs.Below.{someBelow, thoseBelow, runFrom, eachBelow, front}
 use Rattle.lists.specs.Sort.{lowerBy, upperBy}
 use Rattle.bitmap.specs.Mask.{withBit, allBelow, count, maskBelow, gather}
@@ -20,7 +19,7 @@ use Rattle.numerals.specs.Text.{without, isText, isSame, trimStart, trimEnd, tr
 use Rattle.numerals.specs.Read.{readEach}
 use Rattle.numerals.specs.Whole.{isDigits, spelt, wholeOf, belowOf, memberOf, memberIn, membersOf}
 use Rattle.decimals.specs.Decimal.{isNegative, writtenOf, decimalOf}
-use Rattle.profile_text.specs.ProfileText.{nothing, withDomain, withWords, withRuntime, domainIn, domainsIn, decimalIn, decimalsOf, thresholdOf, fitting, probsIn, namedIn, mechanismIn, mechanismsOf, profileOf}
+use Rattle.profile_text.specs.ProfileText.{nothing, withDomain, withWords, domainIn, domainsIn, decimalIn, decimalsOf, thresholdOf, fitting, probsIn, namedIn, mechanismIn, mechanismsOf, profileOf}
 use Rattle.maximal.specs.Maximal.{isPart, isBeyond, isCoveredBy, isMaximal, maximals}
 use Rattle.faults.specs.Family as Family
 use Rattle.faults.specs.FaultList.{faultRefusal, faultListOf, faultWords}
@@ -35,7 +34,7 @@ use Rattle.trimming.specs.Order.{slower, peersOf, trimOrder}
 use Rattle.trimming.specs.Trimming.{keeps, tried, trimmedIn, trimmed}
 use Rattle.candidates.specs.Search.{runAt, answeredAt, loadsAt, commitsAt, firstTime}
 use Rattle.assignment.specs.Plans.{Plan, loadsFor, planOf, pickRefusal, pickOf}
-use Rattle.gossip.specs.Gossip.{ring, round as around, turns, met, visit, walk, gossipRefusal, gossipOf, exclusionsLeft}
+use Rattle.gossip.specs.Gossip.{ring, round, turns, met, visit, walk, gossipRefusal, gossipOf, exclusionsLeft}
 
 -- ---- what is asked, each entry's inputs in the order of the sheet; a row, and any other set, is the list of its members
 pub data Asked : Type 0 where
@@ -150,15 +149,14 @@ sheet =
 
 -- ---- every row holds
 pub sheet-holds : map (λ (l : Line). answer (l .asked)) sheet ≡ map (λ (l : Line). l .told) sheet
-unfolding sheet line answer faultsFor
+unfolding sheet answer faultsFor
     layoutRowsOf rowsWritten rowsRefusal isPopulation isShards widthOf rowsOf rowFor eachBelow gather
-    profileOf mechanismsOf mechanismIn namedIn domainsIn domainIn probsIn decimalsOf decimalIn thresholdOf fitting nothing withDomain withWords withRuntime
+    profileOf mechanismsOf mechanismIn namedIn domainsIn domainIn probsIn decimalsOf decimalIn thresholdOf fitting nothing withDomain withWords
     readEach split trim trimStart trimEnd cutBy isText isSame isDigits spelt without wholeOf belowOf memberOf memberIn membersOf decimalOf writtenOf isNegative
-    probsFit isThreshold isProbability isNan lt le round size units odd span climb trailingZeros
-    faultListOf faultWords front faultRefusal domainsFit domainsCounted maximals thoseBelow isMaximal isCoveredBy someBelow isBeyond isPart
+    probsFit isThreshold isProbability le faultListOf faultWords front faultRefusal domainsFit domainsCounted maximals thoseBelow isMaximal isCoveredBy someBelow isBeyond isPart
     Family.familyOf Family.isSized Family.isAmong Family.isProbable Family.timesOf mul count
     coversOf coversRefusal isFaultList isCovered leaves unionOf commits
     pickOf pickRefusal peersFit isQuorum planOf firstTime commitsAt answeredAt loadsAt runAt runFrom maskBelow loadsFor shardLength timesOf timeAt replyTime settled
     predictOf isFinite add div ofInt ofBits toBits totalLe layoutCommits trimmed trimmedIn tried keeps trimOrder peersOf slower lowerBy upperBy
-    gossipOf exclusionsLeft gossipRefusal walk turns around ring visit met
+    gossipOf exclusionsLeft gossipRefusal walk turns round ring visit met
 sheet-holds = refl
