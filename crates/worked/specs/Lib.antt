@@ -1,0 +1,2 @@
+-- The site sheet's starred lines, computed by the checker.
+pub mod Sheet
