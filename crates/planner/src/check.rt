@@ -146,7 +146,7 @@ fn wrong(number: u64, what: &[u8], word: &[u8]) -> bool {
 // ---- what is missing
 
 // Whether every key is there, and a line for every peer.
-pub fn is_whole(text: &[u8]) -> bool {
+pub fn is_complete(text: &[u8]) -> bool {
     let population = has(text, b"population");
     let own = has(text, b"own");
     let tolerance = has(text, b"tolerance");
@@ -249,7 +249,13 @@ fn concerned(text: &[u8], no: u8) -> Place {
         refusals::SHARDS => of_shards(text),
         refusals::QUORUM => site::find(text, b"quorum", 0, 0),
         refusals::BYTES => of_bytes(text),
-        _ => site::find(text, b"profile", 0, 0),
+        refusals::TEXT..=refusals::DOMAINS | refusals::EVERY_REPLICA => site::find(
+            text,
+            b"profile",
+            0,
+            0,
+        ),
+        _ => Place { at: 0, number: 0 },
     }
 }
 

@@ -19,7 +19,7 @@ pub fn plan(text: &[u8]) {
     if !check::are_lines(text) {
         return;
     }
-    if !check::is_whole(text) {
+    if !check::is_complete(text) {
         return;
     }
     let n = site::number_of(text, b"population") as usize;
@@ -130,6 +130,7 @@ fn record(s: &[u8], n: usize, i: usize, p: Profile) -> PeerRecord {
     }
 }
 
+// A peer that is not described, as our own controller need not be, is silent. No profile that was read is refused (`accepted-fits`).
 fn heard(s: &[u8], n: usize, i: usize, p: Profile) -> Peer {
     if s.len() == 0 {
         return Peer::Silent;
