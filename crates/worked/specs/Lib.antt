@@ -1,2 +1,3 @@
--- The site sheet's starred lines, computed by the checker.
+-- The site sheet's starred lines, computed by the checker, and the order of the refusals over all entries.
 pub mod Sheet
+pub mod Order
