@@ -1,15 +1,12 @@
 // What is printed of a fault list and of a layout.
-use bitmap::ShardId;
-
 // The sets of a fault list, a line for each.
 pub fn faults(list: &[u64]) {
-    io::write_all(1, b"fault sets ");
-    io::print_decimal(1, list.len() as u64);
+    printed::number(b"fault sets ", list.len());
     io::write_all(1, b"\n");
     let mut i = 0;
     while i < list.len() {
         io::write_all(1, b"  ");
-        members(list[i]);
+        printed::members(list[i]);
         io::write_all(1, b"\n");
         i += 1;
     }
@@ -17,47 +14,20 @@ pub fn faults(list: &[u64]) {
 
 // A width and rows: a line for each replica.
 pub fn layout(own: usize, width: usize, rows: &[u64]) {
-    io::write_all(1, b"  width ");
-    io::print_decimal(1, width as u64);
+    printed::number(b"  width ", width);
     io::write_all(1, b"\n");
     let mut i = 0;
     while i < rows.len() {
-        io::write_all(1, b"  replica ");
-        io::print_decimal(1, i as u64);
-        io::write_all(1, b"  load ");
-        io::print_decimal(1, bitmap::count(rows[i]) as u64);
+        printed::number(b"  replica ", i);
+        printed::number(b"  load ", bitmap::count(rows[i]));
         io::write_all(1, b"  shards ");
-        members(rows[i]);
+        printed::members(rows[i]);
         if i == own {
             io::write_all(1, b"  (own)");
         }
         io::write_all(1, b"\n");
         i += 1;
     }
-}
-
-// The members of a mask, rising.
-fn members(mask: u64) {
-    if mask == 0 {
-        io::write_all(1, b"none");
-        return;
-    }
-    let mut any = false;
-    let mut b: usize = 0;
-    while b < 64 {
-        if bitmap::has_shard(mask, ShardId(b)) {
-            member(any, b);
-            any = true;
-        }
-        b += 1;
-    }
-}
-
-fn member(any: bool, b: usize) {
-    if any {
-        io::write_all(1, b",");
-    }
-    io::print_decimal(1, b as u64);
 }
 
 // A time in milliseconds, to six places where it is below 10^9, and its bits.
@@ -70,7 +40,7 @@ pub fn time(t: f64) {
         size(t);
     }
     io::write_all(1, b" ms (bits ");
-    bits(t);
+    printed::bits(t);
     io::write_all(1, b")\n");
 }
 
@@ -111,11 +81,4 @@ fn whole(x: f64) -> u64 {
         }
     }
     0
-}
-
-// A double's bits.
-fn bits(t: f64) {
-    if floats::is_finite(t) {
-        io::print_hex(1, f64::to_bits(t), 16);
-    }
 }

@@ -1,5 +1,4 @@
 // Runs the site sheet's lines on texts and on the bounds: a line for each, with the number that refuses or what was read.
-use bitmap::ShardId;
 use layout::Laid;
 use layout::TotalShards;
 use layout_text::Init;
@@ -55,9 +54,9 @@ fn bounds() {
 
 // A layout text: the rows.
 fn initial(n: usize, total: usize, d: usize, s: &[u8], rows: &mut [u64]) {
-    number(b"n ", n);
-    number(b", total ", total);
-    number(b", d ", d);
+    printed::number(b"n ", n);
+    printed::number(b", total ", total);
+    printed::number(b", d ", d);
     io::write_all(1, b", `");
     io::write_all(1, s);
     io::write_all(1, b"`: ");
@@ -73,16 +72,16 @@ fn initial(n: usize, total: usize, d: usize, s: &[u8], rows: &mut [u64]) {
 
 // A layout under a ceiling: the width and the rows.
 fn laid(n: usize, d: usize, ceiling: usize, loads: &[usize], rows: &mut [u64]) {
-    number(b"n ", n);
-    number(b", d ", d);
-    number(b", loads of 4, ceiling ", ceiling);
+    printed::number(b"n ", n);
+    printed::number(b", d ", d);
+    printed::number(b", loads of 4, ceiling ", ceiling);
     io::write_all(1, b": ");
     match layout::layout_rows(n, d, TotalShards::AtMost(ceiling), loads, rows) {
         Laid::Refused(no) => {
             refused(no);
         }
         Laid::Width(w) => {
-            number(b"w ", w);
+            printed::number(b"w ", w);
             io::write_all(1, b"; rows ");
             print_rows(rows);
         }
@@ -102,8 +101,8 @@ fn profile(s: &[u8]) {
         }
         Reading::Read => {
             let p = r.profile;
-            number(b"domains ", p.domain_count);
-            number(b", probabilities ", p.prob_count);
+            printed::number(b"domains ", p.domain_count);
+            printed::number(b", probabilities ", p.prob_count);
             float(b", the first ", p.probs[0]);
             float(b", threshold ", p.threshold);
             io::write_all(1, b"\n");
@@ -117,38 +116,15 @@ fn print_rows(rows: &[u64]) {
         if i > 0 {
             io::write_all(1, b"; ");
         }
-        print_row(rows[i]);
+        printed::members(rows[i]);
     }
     io::write_all(1, b"\n");
 }
 
-fn print_row(row: u64) {
-    let mut named = false;
-    for s in 0..64 {
-        if bitmap::has_shard(row, ShardId(s)) {
-            if named {
-                io::write_all(1, b",");
-            }
-            io::print_decimal(1, s as u64);
-            named = true;
-        }
-    }
-    if !named {
-        io::write_all(1, b"none");
-    }
-}
-
-fn number(name: &[u8], x: usize) {
-    io::write_all(1, name);
-    io::print_decimal(1, x as u64);
-}
-
 // A double's bits. What is read is always finite.
 fn float(name: &[u8], x: f64) {
-    if floats::is_finite(x) {
-        io::write_all(1, name);
-        io::print_hex(1, f64::to_bits(x), 16);
-    }
+    io::write_all(1, name);
+    printed::bits(x);
 }
 
 fn refused(no: u8) {

@@ -19,7 +19,6 @@ faults-spec =
     μ-loop
     (λ c. search needs)
     (λ c κs. search needs)
-    (λ c κs. search needs)
     (λ c. search needs)
     (λ c κs. search needs)
     (λ c. search needs)

@@ -1,9 +1,9 @@
--- `planner::print::bits` is safe: a finite float is no NaN. Assumes nothing.
+-- `printed::bits` is safe: a finite float is no NaN. Assumes nothing.
 use mathlib.Core.Path.{sym, _∙_}
 use borrow.Author.Needs.{needs}
 use Rattle.floats.proofs.Finite.{finite-number}
-use Rattle.planner.proofs.print.bits.Statement.{statement}
-use Rattle.planner.proofs.print.bits.Tie as tie
+use Rattle.printed.proofs.bits.Statement.{statement}
+use Rattle.printed.proofs.bits.Tie as tie
 
 pub bits-spec : {M : Type 1} → statement M
 bits-spec =
