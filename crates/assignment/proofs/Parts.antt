@@ -1,9 +1,9 @@
 -- How the parts of a plan come to what the definitions say. The premises are the fields of a need's record. Assumes nothing.
-use mathlib.Core.Path.{_≡_, refl, sym, ap, _∙_}
+use mathlib.Core.Path.{_≡_, sym, ap, _∙_}
 use mathlib.Core.Bool.{Bool, true, false, not}
 use mathlib.Core.List.{List}
 use mathlib.Core.Option.{Option, some}
-use Prim.Native.Nat.{ℕ, zero, suc, _+_, _*_, _≤_, suc-le-suc}
+use Prim.Native.Nat.{ℕ, suc, _+_, _*_, _≤_, suc-le-suc}
 use native.Mathlib.Nat.{mul-le-mul}
 use native.Mathlib.Omega.{arith}
 use lib.Ieee.{Float}
@@ -13,7 +13,8 @@ use Rattle.lists.specs.Below.{front}
 use Rattle.lists.proofs.BelowLoops.{front-all}
 use Rattle.bitmap.specs.Mask.{run}
 use Rattle.refusals.specs.Numbers.{TRIMMED}
-use Rattle.refusals.specs.Outcome.{Outcome, refused, accepted, checked}
+use Rattle.refusals.specs.Outcome.{Outcome, refused, accepted}
+use Rattle.refusals.proofs.Outcomes.{is-checked}
 use Rattle.layout.specs.declared.TotalShards.{TotalShards}
 use Rattle.layout.specs.Layout.{layoutCommits, widthOf, rowsOf}
 use Rattle.layout.specs.LayoutLaws.{rows-length}
@@ -75,14 +76,9 @@ module _ (n own quorum d : ℕ) (total : TotalShards) (size : ℕ) (peers : List
   pub pick-refused : (penalty : Float) (rows : List ℕ) → (got ≡ 0 → ⊥)
       → (refused got ≡ pickOf n own quorum d total size peers penalty faults room) × (rows ≡ planned (pickOf n own quorum d total size peers penalty faults room) rows)
   unfolding pickOf
-  pick-refused penalty rows u = rw (sym e) (go got u)
-    where
-      plan : Outcome (Option Plan)
-      plan = planOf n own quorum d total faults (timesOf n own d (shardLength size d) peers penalty)
-
-      go : (k : ℕ) → (k ≡ 0 → ⊥) → (refused k ≡ checked k plan) × (rows ≡ planned (checked k plan) rows)
-      go zero u = absurd (u refl)
-      go (suc k) u = (refl, refl)
+  pick-refused penalty rows u =
+      let s : refused got ≡ pickOf n own quorum d total size peers penalty faults room = is-checked _ got _ e u in
+      (s, ap (λ (o : Outcome (Option Plan)). planned o rows) s)
 
   module _ (z : got ≡ 0) where
     -- what has been tested

@@ -1,2 +1,2 @@
--- How the code comes to what the definitions say, and worked values.
+-- How the code comes to what the definitions say.
 pub mod Records

@@ -459,7 +459,7 @@ fn word_at(xs: &[u64], i: usize) -> u64
     0
 }
 
-// Whether a table of that many words has so many for each of n replicas.
+// Whether a table of that many words has so many for each of n replicas. A part: that is at least one.
 pub fn is_records(len: usize, each: usize, n: usize) -> bool
     requires { ⌜ 0 < each ⌝ }
     ensures { λ r. ⌜ r ≡ isRecords len each n ⌝ }

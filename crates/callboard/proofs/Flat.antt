@@ -2,10 +2,11 @@
 use mathlib.Core.Path.{_≡_, refl, sym, ap, _∙_}
 use mathlib.Core.List.{List, []}
 use mathlib.Core.Option.{Option}
-use Prim.Native.Nat.{ℕ, zero, suc}
+use Prim.Native.Nat.{ℕ}
 use lib.Ieee.{Float}
 use lib.ListN.{length}
-use Rattle.refusals.specs.Outcome.{Outcome, checked}
+use Rattle.refusals.specs.Outcome.{Outcome, refused}
+use Rattle.refusals.proofs.Outcomes.{is-checked}
 use Rattle.layout.specs.declared.TotalShards.{TotalShards}
 use Rattle.layout_text.specs.declared.Init.{Init}
 use Rattle.layout_text.specs.declared.Init.the-variants as Reading
@@ -50,15 +51,9 @@ module _ (n own quorum d ceiling width size : ℕ) (penalty : Float) (heard : �
   -- refused: the answer is the number alone, and the rows are as they were
   pub refused-plan : {r : C-plan.Plan} → (got ≡ 0 → ⊥) → r ≡ unplannedOf got → (r ≡ toPlan plan) × (rows ≡ planned plan rows)
   unfolding pickIn
-  refused-plan h q = (q ∙ numbered _ number refusing, unwritten _ number refusing)
-    where
-      numbered : (o : Outcome (Option Plan)) (k : ℕ) → got ≡ k → unplannedOf got ≡ toPlan (checked k o)
-      numbered o zero e = absurd (h e)
-      numbered o (suc k) e = ap unplannedOf e
-
-      unwritten : (o : Outcome (Option Plan)) (k : ℕ) → got ≡ k → rows ≡ planned (checked k o) rows
-      unwritten o zero e = absurd (h e)
-      unwritten o (suc k) e = refl
+  refused-plan h q =
+      let s : refused got ≡ plan = is-checked number got _ refusing h in
+      (q ∙ ap toPlan s, ap (λ (o : Outcome (Option Plan)). planned o rows) s)
 
   -- else both are the entry's
   module _ (z : got ≡ 0) where

@@ -1,3 +1,3 @@
--- How the code comes to what the definitions say, and worked values.
+-- How the code comes to what the definitions say.
 pub mod Flat
 pub mod Rows

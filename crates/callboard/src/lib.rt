@@ -14,7 +14,7 @@ ghost use Rattle.layout_text.specs.LayoutText.{initOf};
 ghost use Rattle.refusals.specs.Outcome.{left};
 ghost use Rattle.gossip.specs.Gossip.{gossipOf, exclusionsLeft};
 ghost use Rattle.tally.specs.Tally.{openingOf, told, replyOf, tallyAfter};
-ghost use Rattle.c_types.specs.CTypes.{isSet, toTotal, toAnswer, toFlag, toDone, toFloat, toLayout, toPlan, toChoice, toReply, toReading, fromProfile, fromTally, tallyLeft, toOpening};
+ghost use Rattle.c_types.specs.CTypes.{toTotal, toAnswer, toFlag, toDone, toFloat, toLayout, toPlan, toChoice, toReply, toReading, fromProfile, fromTally, tallyLeft, toOpening};
 ghost use Rattle.callboard.specs.Interface.{isPast, planTables, pickIn, policyTables, fittingOf, policyIn, copied, rowsLeft};
 use adaptive::Policy;
 use bitmap::ReplicaId;

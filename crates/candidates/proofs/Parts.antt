@@ -10,14 +10,14 @@ use native.Mathlib.Numerals.{add-one}
 use native.Mathlib.Omega.{arith}
 use lib.Dec.{leb}
 use lib.Ieee.{Float, nan, le}
-use lib.ListN.{length, getD, take, set}
+use lib.ListN.{length, getD, set}
 use borrow.Author.Tests.{leb-true, lt-ltb, not-true, not-false}
 use Rattle.lists.specs.All.{AllOf}
 use Rattle.lists.specs.First.{firstThat, betterBy}
 use Rattle.lists.specs.FirstLaws.{considered-again, considered-before}
 use Rattle.lists.specs.Sort.{sortedBy}
-use Rattle.lists.specs.Below.{runOf, eachBelow}
-use Rattle.lists.proofs.BelowLoops.{each-more}
+use Rattle.lists.specs.Below.{runOf}
+use Rattle.lists.proofs.BelowLoops.{Filled, filled-more}
 use Rattle.bitmap.specs.Mask.{withBit, maskBelow}
 use Rattle.bitmap.proofs.MaskLoops.{mask-yes, mask-no}
 use Rattle.floats.specs.Floats.{isFinite, totalLe, isSame, precedes}
@@ -25,7 +25,8 @@ use Rattle.floats.specs.OrderLaws.{total, trans, same-means}
 use Rattle.floats.specs.FirstLaws.{Fits, first-is-least, taken-means}
 use Rattle.times.specs.Times.{never}
 use Rattle.times.specs.TimeLaws.{place-within}
-use Rattle.candidates.specs.Search.{runAt, answers, loadAt, candidates, repeatsAt, isRepeat}
+use Rattle.candidates.specs.Search.{runAt, answers, loadAt, candidates}
+use Rattle.candidates.specs.Repeats.{repeatsAt, isRepeat}
 use Rattle.candidates.specs.SearchLaws.{candidates-fit, peer-run}
 
 -- ---- `run_at`: the place where a peer's times begin
@@ -41,23 +42,26 @@ module _ (own d : ℕ) (times : List Float) (t : Float) (p : ℕ) where
   run-of-peer n e = e ∙ ap (λ (k : ℕ). runOf (inTimeFrom times t k) (suc d)) (begins p d) ∙ sym (peer-run own d times t p n)
 
 -- ---- `loads_at`: l has the loads below p, and m is the mask of those below p that answer
-module _ (own d : ℕ) (times : List Float) (t : Float) (p : ℕ) (l : List ℕ) (m r : ℕ) (loaded : take p l ≡ eachBelow (loadAt own d times t) p)
-    (masked : m ≡ maskBelow (answers own d times t) p) (e : r ≡ runAt own d times t p) (h : p < length l) where
+abbrev pub Loaded : ℕ → ℕ → ℕ → List Float → Float → List ℕ → ℕ → ℕ → Type 0
+Loaded n own d times t l m p = Filled (loadAt own d times t) n l p × (m ≡ maskBelow (answers own d times t) p)
+
+module _ (n own d : ℕ) (times : List Float) (t : Float) (p : ℕ) (l : List ℕ) (m r : ℕ) (loaded : Loaded n own d times t l m p) (e : r ≡ runAt own d times t p)
+    (h : p < n) where
   abbrev Next : List ℕ → ℕ → Type 0
-  Next l′ m′ = (take (p + 1) l′ ≡ eachBelow (loadAt own d times t) (p + 1)) × (m′ ≡ maskBelow (answers own d times t) (p + 1))
+  Next l′ m′ = Loaded n own d times t l′ m′ (p + 1)
 
   -- it does not answer
   pub next-silent : {l′ : List ℕ} {m′ : ℕ} → r ≡ 0 → l′ ≡ set l p 0 → m′ ≡ m → Next l′ m′
   next-silent z f g = (
-    rw f (each-more (loadAt own d times t) l p loaded 0 h (omega (arith, e, z))),
-    g ∙ masked ∙ sym (mask-no (answers own d times t) p (rw (sym e ∙ z))),
+    rw f (filled-more (loadAt own d times t) n l p (loaded .0) 0 h (omega (arith, e, z))),
+    g ∙ loaded .1 ∙ sym (mask-no (answers own d times t) p (rw (sym e ∙ z))),
   )
 
   -- it does
   pub next-answers : {l′ : List ℕ} {m′ : ℕ} → (r ≡ 0 → ⊥) → l′ ≡ set l p (r - 1) → m′ ≡ withBit m p → Next l′ m′
   next-answers z f g = (
-    rw f (each-more (loadAt own d times t) l p loaded (r - 1) h (ap (λ (k : ℕ). k - 1) e)),
-    g ∙ ap (λ (k : ℕ). withBit k p) masked ∙ sym (mask-yes (answers own d times t) p (lt-ltb 0 (runAt own d times t p) (omega (arith, e)))),
+    rw f (filled-more (loadAt own d times t) n l p (loaded .0) (r - 1) h (ap (λ (k : ℕ). k - 1) e)),
+    g ∙ ap (λ (k : ℕ). withBit k p) (loaded .1) ∙ sym (mask-yes (answers own d times t) p (lt-ltb 0 (runAt own d times t p) (omega (arith, e)))),
   )
 
 -- the place of a replica's last time is within the table

@@ -1,17 +1,16 @@
 -- The search of a plan over the table of times. Assumes nothing.
-use mathlib.Core.Bool.{Bool, cond, _&&_, _||_}
+use mathlib.Core.Bool.{Bool, cond}
 use mathlib.Core.List.{List}
 use mathlib.Core.Option.{Option}
-use Prim.Native.Nat.{ℕ, suc, _-_, _*_}
-use lib.Dec.{leb, ltb, eqb}
-use lib.Ieee.{Float, nan, le}
-use lib.ListN.{getD}
+use Prim.Native.Nat.{ℕ, suc, _-_}
+use lib.Dec.{ltb, eqb}
+use lib.Ieee.{Float, le}
 use Rattle.lists.specs.All.{passing}
 use Rattle.lists.specs.Below.{runOf, eachBelow}
 use Rattle.lists.specs.First.{firstThat}
 use Rattle.lists.specs.Sort.{sortedBy}
 use Rattle.bitmap.specs.Mask.{maskBelow}
-use Rattle.floats.specs.Floats.{isFinite, totalLe, isSame}
+use Rattle.floats.specs.Floats.{isFinite, totalLe}
 use Rattle.layout.specs.declared.TotalShards.{TotalShards}
 use Rattle.layout.specs.Layout.{layoutCommits}
 use Rattle.times.specs.Times.{timeIn}
@@ -56,13 +55,3 @@ module _ (n own quorum d : ℕ) (total : TotalShards) (faults : List ℕ) (times
   -- the first candidate, in total order, at which it does
   unfoldable pub firstTime : Option Float
   firstTime = firstThat commitsAt (sortedBy totalLe (candidates times))
-
--- ---- times that have been considered
-
--- the time so many places before i is the same
-abbrev pub repeatsAt : List Float → ℕ → ℕ → Bool
-repeatsAt times back i = leb back i && isSame (getD times (i - back) nan) (getD times i nan)
-
--- it stands one place before, or at the same load one or two replicas before
-abbrev pub isRepeat : ℕ → List Float → ℕ → Bool
-isRepeat d times i = repeatsAt times 1 i || (repeatsAt times (suc d) i || repeatsAt times (2 * suc d) i)

@@ -9,12 +9,14 @@ ghost use Rattle.lists.specs.First.{betterBy};
 ghost use Rattle.floats.specs.Floats.{isFinite, totalLe, found};
 ghost use Rattle.layout.specs.Layout.{Fit, bound};
 ghost use Rattle.times.specs.Times.{never};
-ghost use Rattle.candidates.specs.Search.{runAt, answeredAt, loadsAt, commitsAt, firstTime, repeatsAt, isRepeat};
+ghost use Rattle.candidates.specs.Search.{runAt, answeredAt, loadsAt, commitsAt, firstTime};
+ghost use Rattle.candidates.specs.Repeats.{repeatsAt, isRepeat};
 use bitmap::ReplicaId;
 use floats::Found;
 use layout::TotalShards;
 
-// The first candidate in total order that commits. One pass serves: a candidate is tested only if it stands before the best so far and is no repeat.
+// The first candidate in total order that commits. One pass serves: a candidate is tested only if it stands before the best so far and is no repeat. A part:
+// the numbers have been tested, and the table is that of n replicas.
 pub fn first_time(
     n: usize,
     own: ReplicaId,
@@ -109,7 +111,7 @@ fn commits_at(
     layout::commits(n, quorum, d, total, answered, faults, &loads[..n])
 }
 
-// The most shards that each replica can persist by a time, and the mask of those that answer by then.
+// The most shards that each replica can persist by a time, and the mask of those that answer by then. A part, as first_time, with a load for each replica.
 pub fn loads_at(
     n: usize,
     own: ReplicaId,

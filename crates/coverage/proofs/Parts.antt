@@ -1,7 +1,7 @@
 -- What a replica adds to a union, what a loop over replicas unites, and what a loop that looks for a set to make up the whole keeps. The premises are what a
 -- need's record holds, so that `search` finds them. Assumes nothing.
 use mathlib.Core.Path.{_≡_, refl, sym, ap, _∙_}
-use mathlib.Core.Bool.{Bool, true, false, cond, not, _&&_}
+use mathlib.Core.Bool.{true, false, cond, not, _&&_}
 use mathlib.Core.List.{List}
 use Prim.Native.Nat.{ℕ, zero, suc, _+_, _-_, _*_, _^_, _≤_, _<_}
 use native.Mathlib.Nat.{le-antisymm, zero-mul, mul-zero, mul-le-mul, mul-le-mul-left}
@@ -10,7 +10,7 @@ use native.Mathlib.Omega.{arith}
 use lib.Dec.{eqb}
 use lib.Bits.{bitOr}
 use lib.ListN.{length, getD, drop}
-use borrow.Author.Tests.{eq-eqb, ne-eqb, not-true, not-false}
+use borrow.Author.Tests.{eq-eqb, ne-eqb}
 use Rattle.lists.specs.All.{any}
 use Rattle.lists.proofs.Loops.{Missed, miss, hit}
 use Rattle.coverage.specs.Coverage.{shareOf, unionOf, completes}

@@ -30,17 +30,17 @@ negative-at (b ∷ bs) h = refl
 
 -- ---- digits
 module _ (i : ℕ) (s : List ℕ) (e : all isDigit s ≡ true) (h : i < length s) where
-  pub digit-at : (48 ≤ getD s i 0) × (getD s i 0 ≤ 57)
+  digit-at : (48 ≤ getD s i 0) × (getD s i 0 ≤ 57)
   digit-at = digit-range (getD s i 0) (all-means isDigit 0 s .0 e i h)
 
 -- there is room for v and n digits after it
-pub room-small : (v n most : ℕ) → (v + 1) * 10 ^ n ≤ most → v < most
+room-small : (v n most : ℕ) → (v + 1) * 10 ^ n ≤ most → v < most
 room-small v n most g =
     let k : (v + 1) * 1 ≤ (v + 1) * 10 ^ n = mul-le-mul-left (v + 1) (ten-pos n) in
     omega arith
 
 module _ (v i most : ℕ) (s : List ℕ) (e : all isDigit s ≡ true) (h : i < length s) where
-  pub room-next : (v + 1) * 10 ^ (length s - i) ≤ most → (v * 10 + (getD s i 0 - 48) + 1) * 10 ^ (length s - (i + 1)) ≤ most
+  room-next : (v + 1) * 10 ^ (length s - i) ≤ most → (v * 10 + (getD s i 0 - 48) + 1) * 10 ^ (length s - (i + 1)) ≤ most
   room-next g =
       let k : length s - i ≡ suc (length s - (i + 1)) = omega arith in
       let d = digit-at i s e h in
@@ -48,11 +48,11 @@ module _ (v i most : ℕ) (s : List ℕ) (e : all isDigit s ≡ true) (h : i < l
 
 -- v is what the digits before i spell
 module _ (v i : ℕ) (s : List ℕ) {n : ℕ} (inv : n ≡ spelt v (drop i s)) where
-  pub spelt-next : i < length s → n ≡ spelt (v * 10 + (getD s i 0 - 48)) (drop (i + 1) s)
+  spelt-next : i < length s → n ≡ spelt (v * 10 + (getD s i 0 - 48)) (drop (i + 1) s)
   unfolding spelt
   spelt-next h = inv ∙ rw (drop-cons s i 0 h, add-one)
 
-  pub spelt-end : length s ≤ i → v ≡ n
+  spelt-end : length s ≤ i → v ≡ n
   unfolding spelt
   spelt-end h = sym (inv ∙ simp (drop-of-length-le s h))
 

@@ -146,21 +146,7 @@ fn power(q: &[u8]) -> usize
     requires { ⌜ (all isDigit (now q) ≡ true) × (length (now q) ≤ 4) ⌝ }
     ensures { λ r. ⌜ (r ≡ spelt 0 (now (q .entry))) × (r < 10 ^ 4) ⌝ }
 {
-    spelt(q, 0) as usize
-}
-
-// The number that the digits of s spell after digits that are worth v. A part: they have been tested and counted.
-fn spelt(s: &[u8], v: u64) -> u64
-    requires { ⌜ (all isDigit (now s) ≡ true) × ((v + 1) * 10 ^ length (now s) ≤ 10 ^ 15) ⌝ }
-    ensures { λ r. ⌜ r ≡ spelt v (now (s .entry)) ⌝ }
-{
-    let mut w = v;
-    let mut i = 0;
-    while i < s.len() {
-        w = w * 10 + (s[i] - b'0') as u64;
-        i += 1;
-    }
-    w
+    read_digits(q, 0).value as usize
 }
 
 // Whether s has a - at its start.

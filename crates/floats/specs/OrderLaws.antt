@@ -120,12 +120,12 @@ signed-number false a true b h = no h
 signed-number true a false b h = tt
 signed-number true a true b h = leb-true b a h
 
--- what is at most y in total order is at most y as a number
 -- two doubles at one place of the order are one
 pub same-means : (x y : Float) → T (fits binary64 x) → T (fits binary64 y) → isSame x y ≡ true → x ≡ y
 unfolding isSame
 same-means x y f g e = let p = and-eq-true-iff (totalLe x y) (totalLe y x) .0 e in antisym x y f g (p .0) (p .1)
 
+-- what is at most y in total order is at most y as a number
 pub total-number : (x y : Float) → isNan y ≡ false → totalLe x y ≡ true → le x y ≡ true
 unfolding totalLe le isNan
 total-number x nan w h = no' w

@@ -1,3 +1,3 @@
--- What the proofs of gossip share.
+-- What the proofs of gossip share, and worked values.
 pub mod Steps
 pub mod Examples

@@ -1,8 +1,8 @@
 -- The union of what one has and the rows of some peers, said shard by shard. Assumes nothing.
 use mathlib.Core.Path.{_≡_, refl, sym, ap, _∙_}
 use mathlib.Core.Logic.{_↔_, _⊎_, inl, inr, ⊎-elim}
-use mathlib.Core.Bool.{Bool, true, false, true≢false}
-use mathlib.Core.List.{List, [], _∷_, List·Memᴰ, List·Memᴰ·head, List·Memᴰ·tail, List·Memᴰ·not-nil, List·Memᴰ·cases-cons}
+use mathlib.Core.Bool.{true, false, true≢false}
+use mathlib.Core.List.{List, _∷_, List·Memᴰ, List·Memᴰ·head, List·Memᴰ·tail, List·Memᴰ·cases-cons}
 use Prim.Native.Nat.{ℕ, _≤_}
 use native.Mathlib.Decide.{ℕ-discrete}
 use native.Mathlib.Omega.{arith}
@@ -80,13 +80,3 @@ module _ (row : ℕ → ℕ) (a : ℕ) where
       held : (k : Holder row (λ p. bit (withBit mask q) p ≡ 1) s) → (bit mask (k .peer) ≡ 1) ⊎ (q ≡ k .peer) → (bit m s ≡ 1) ⊎ (bit (row q) s ≡ 1)
       held k (inl b) = inl (u s .1 (inr (record { peer = k .peer; is = b; holds = k .holds })))
       held k (inr t) = inr (ap (λ (x : ℕ). bit (row x) s) t ∙ k .holds)
-
--- there always is one of the live peers of a list
-pub union-is : (row : ℕ → ℕ) (a alive : ℕ) (ps : List ℕ) → (m : ℕ) × UnionOf a row (LiveIn alive ps) m
-union-is row a alive [] = (a, union-none row a (LiveIn alive []) a (λ p l. List·Memᴰ·not-nil (l .0)) refl)
-union-is row a alive (q ∷ qs) = go (hasBit alive q) refl (union-is row (bitOr a (row q)) alive qs) (union-is row a alive qs)
-  where
-    go : (b : Bool) → hasBit alive q ≡ b → (m : ℕ) × UnionOf (bitOr a (row q)) row (LiveIn alive qs) m → (m : ℕ) × UnionOf a row (LiveIn alive qs) m
-        → (m : ℕ) × UnionOf a row (LiveIn alive (q ∷ qs)) m
-    go true l u v = (u .0, union-live row a (u .0) alive q qs l (u .1))
-    go false l u v = (v .0, union-dead row a (v .0) alive q qs l (v .1))

@@ -5,12 +5,12 @@ use mathlib.Core.Path.{_≡_, refl, sym, ap, _∙_}
 use mathlib.Core.Bool.{Bool, true, false, cond}
 use mathlib.Core.List.{List, [], _∷_, _++_, append-nil, append-assoc, foldl, foldl-append}
 use Prim.Native.Nat.{ℕ, zero, suc, _+_, _-_, _≤_, _<_}
-use native.Mathlib.Nat.{le-refl, le-trans}
+use native.Mathlib.Nat.{le-refl, le-trans, le-of-eq}
 use native.Mathlib.Decide.{le-ind}
 use native.Mathlib.Numerals.{add-one}
 use native.Mathlib.Omega.{arith}
-use lib.ListN.{length, take, set, length-append, length-drop, drop-of-length-le}
-use lib.Seq.{set-append-seam, drop-cons, take-suc-set}
+use lib.ListN.{length, take, set, length-set, length-append, length-drop, drop-of-length-le}
+use lib.Seq.{set-append-seam, drop-cons, take-all, take-suc-set}
 use Rattle.lists.specs.All.{passing}
 use Rattle.lists.specs.Below.{someBelow, thoseBelow, runFrom, eachBelow, front}
 use Rattle.lists.specs.BelowLaws.{some-below-means, each-below-length}
@@ -115,6 +115,21 @@ module _ {A : Type 0} (f : ℕ → A) where
 
     pub each-done : (n : ℕ) → k ≤ n → n ≤ k → take n w ≡ eachBelow f n
     each-done n h g = let q : k ≡ n = omega arith in rw q at written
+
+  -- the same of a w that has n places, so that at the end all of it is written
+  module _ (n : ℕ) where
+    abbrev pub Filled : List A → ℕ → Type 0
+    Filled w k = (k ≤ n) × (length w ≡ n) × (take k w ≡ eachBelow f k)
+
+    pub filled-none : (w : List A) → length w ≡ n → Filled w 0
+    filled-none w e = (omega arith, e, each-none)
+
+    module _ (w : List A) (k : ℕ) (filled : Filled w k) where
+      pub filled-more : (x : A) → k < n → x ≡ f k → Filled (set w k x) (k + 1)
+      filled-more x h e = (omega arith, simp length-set (filled .1), each-more w k (filled .2) x (omega arith) e)
+
+      pub filled-done : n ≤ k → w ≡ eachBelow f n
+      filled-done h = sym (take-all n w (le-of-eq (filled .1))) ∙ each-done w k (filled .2) n (filled .0) h
 
 -- ---- the same, and past those places w is as l was
 module _ (f : ℕ → ℕ) (l : List ℕ) where

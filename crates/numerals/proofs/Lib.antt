@@ -1,3 +1,3 @@
--- Laws that several functions' proofs share.
+-- Laws that several functions' proofs share, and worked values.
 pub mod Scans
 pub mod Examples

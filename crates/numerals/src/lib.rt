@@ -5,7 +5,7 @@ ghost use lib.ListN.{length, take, drop};
 ghost use Rattle.lists.specs.All.{all};
 ghost use Rattle.numerals.specs.Text.{isText, isAscii, isSame, isBlank, trimStart, trimEnd, trim, cut, hasByte};
 ghost use Rattle.numerals.specs.TextLaws.{PartOf};
-ghost use Rattle.numerals.specs.Whole.{isDigit, isDigits, spelt, unplussed, wholeOf, belowOf, memberOf, membersOf, whole, members};
+ghost use Rattle.numerals.specs.Whole.{isDigit, isDigits, unplussed, wholeOf, belowOf, memberOf, membersOf, whole, members};
 
 // A whole number, or the number of its fault.
 pub enum Whole {

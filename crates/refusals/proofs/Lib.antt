@@ -1,4 +1,5 @@
--- How a chain of checks, in code, decides a chain of cases and an outcome, and worked values.
+-- How a chain of checks, in code, decides a chain of cases and an outcome, what a test of the peers keeps, and worked values.
 pub mod Checks
 pub mod Outcomes
+pub mod Peers
 pub mod Examples

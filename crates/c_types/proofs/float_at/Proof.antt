@@ -2,7 +2,7 @@
 use mathlib.Core.Path.{sym}
 use lib.ListN.{List·getD-eq-default}
 use borrow.Author.Needs.{needs}
-use lib.Ieee.{Float, ofBits, nan}
+use lib.Ieee.{ofBits, nan}
 use Rattle.floats.specs.Floats.{plusZero}
 use Rattle.lists.specs.AllLaws.{inside-any}
 use Rattle.c_types.proofs.float_at.Statement.{statement}

@@ -1,18 +1,13 @@
 -- `c_types::from_in_flight` meets its contract. Assumes nothing.
-use mathlib.Core.Path.{_≡_, sym, _∙_}
-use Prim.Native.Nat.{_-_, _≤_}
-use native.Mathlib.Omega.{arith}
+use Prim.Native.Nat.{_-_}
 use borrow.Author.Needs.{needs}
-use lib.ListN.{length, take, length-set}
-use lib.Seq.{take-all}
-use Rattle.lists.specs.Below.{eachBelow}
-use Rattle.lists.proofs.BelowLoops.{each-none, each-more, each-done}
+use Rattle.lists.proofs.BelowLoops.{Filled, filled-none, filled-more, filled-done}
 use Rattle.c_types.specs.Tables.{wordAt, fromInFlight}
 use Rattle.c_types.proofs.from_in_flight.Statement.{statement}
 use Rattle.c_types.proofs.from_in_flight.Tie as tie
 
 abbrev Inv-loop : tie.InvT-loop
-Inv-loop inflight all₀ p₀ all p = (p ≤ 16) × (length all ≡ 16) × (take p all ≡ eachBelow (wordAt inflight) p)
+Inv-loop inflight all₀ p₀ all p = Filled (wordAt inflight) 16 all p
 
 abbrev μ-loop : tie.MeasureT-loop
 μ-loop inflight all₀ p₀ all p = 16 - p
@@ -24,17 +19,11 @@ from-in-flight-spec =
     (tie.spec
     Inv-loop
     μ-loop
-    (λ c. let a = c .before .args in (search needs, search needs, each-none (wordAt (a .inflight .now))))
+    (λ c. search filled-none)
     (λ c κs. search needs)
     (λ c. search needs)
     (λ c. search needs)
     (λ c. search needs)
     (λ c. search needs)
-    (λ c.
-    let l = c .before .before .loop in
-    let a = c .before .before .before .before .args in
-    (omega arith, simp length-set (l .inv .1), each-more (wordAt (a .inflight .now)) _ _ (l .inv .2) _ (omega arith) (c .word-at .ensures)))
-    (λ c.
-    let l = c .before .loop in
-    let a = c .before .before .before .args in
-    sym (take-all 16 (l .all) (omega arith)) ∙ each-done (wordAt (a .inflight .now)) (l .all) (l .p) (l .inv .2) 16 (omega arith) (omega arith)))
+    (λ c. search filled-more)
+    (λ c. search filled-done))

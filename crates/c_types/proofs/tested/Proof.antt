@@ -1,5 +1,5 @@
 -- `c_types::tested` meets its contract. Assumes nothing.
-use mathlib.Core.Path.{sym, ap, _∙_}
+use mathlib.Core.Path.{sym, ap}
 use borrow.Author.Needs.{needs}
 use Rattle.layout.specs.Layout.{tested}
 use Rattle.layout.specs.declared.Tested.{Tested}

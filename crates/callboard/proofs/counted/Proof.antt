@@ -1,5 +1,4 @@
 -- `callboard::counted` meets its contract. Assumes nothing.
-use mathlib.Core.Path.{_∙_}
 use borrow.Author.Needs.{needs}
 use Rattle.callboard.proofs.counted.Statement.{statement}
 use Rattle.callboard.proofs.counted.Tie as tie

@@ -1,5 +1,4 @@
 -- `callboard::is_past` meets its contract. Assumes nothing.
-use borrow.Author.Needs.{needs}
 use borrow.Author.Tests.{eq-eqb, ne-eqb}
 use Rattle.callboard.proofs.is_past.Statement.{statement}
 use Rattle.callboard.proofs.is_past.Tie as tie

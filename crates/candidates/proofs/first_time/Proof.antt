@@ -14,7 +14,6 @@ use Rattle.lists.specs.AllLaws.{all-of-means}
 use Rattle.lists.proofs.Loops.{fold-step, fold-done}
 use Rattle.floats.specs.Floats.{found}
 use Rattle.floats.specs.FirstLaws.{Fits}
-use Rattle.floats.specs.declared.Found.{Found}
 use Rattle.candidates.specs.Search.{commitsAt, firstTime}
 use Rattle.candidates.proofs.Parts.{step, least-found, Settled, more-settled, repeated}
 use Rattle.candidates.proofs.first_time.Statement.{statement}

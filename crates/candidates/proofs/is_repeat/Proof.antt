@@ -1,7 +1,6 @@
 -- `candidates::is_repeat` meets its contract. Assumes nothing.
 use mathlib.Core.Path.{sym, _∙_}
 use native.Mathlib.Numerals.{add-one}
-use native.Mathlib.Omega.{arith}
 use borrow.Author.Needs.{needs}
 use Rattle.candidates.proofs.is_repeat.Statement.{statement}
 use Rattle.candidates.proofs.is_repeat.Tie as tie

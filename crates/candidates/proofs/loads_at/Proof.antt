@@ -1,23 +1,19 @@
 -- `candidates::loads_at` meets its contract. Assumes nothing.
 use mathlib.Core.Path.{_≡_, sym, ap, _∙_}
 use mathlib.Core.Logic.{⊎-elim}
-use Prim.Native.Nat.{_-_, _≤_, _<_}
+use Prim.Native.Nat.{_-_}
 use native.Mathlib.Omega.{arith}
 use borrow.Author.Needs.{needs}
-use lib.ListN.{length, take, length-set}
-use lib.Seq.{take-all}
-use Rattle.lists.specs.Below.{eachBelow}
-use Rattle.lists.proofs.BelowLoops.{each-none, each-done}
+use Rattle.lists.proofs.BelowLoops.{filled-none, filled-done}
 use Rattle.bitmap.specs.Mask.{maskBelow}
 use Rattle.bitmap.proofs.MaskLoops.{mask-none}
-use Rattle.candidates.specs.Search.{answers, loadAt, answeredAt, loadsAt}
-use Rattle.candidates.proofs.Parts.{next-silent, next-answers, row-inside}
+use Rattle.candidates.specs.Search.{answers, answeredAt, loadsAt}
+use Rattle.candidates.proofs.Parts.{Loaded, next-silent, next-answers, row-inside}
 use Rattle.candidates.proofs.loads_at.Statement.{statement}
 use Rattle.candidates.proofs.loads_at.Tie as tie
 
 abbrev Inv-loop : tie.InvT-loop
-Inv-loop n own d times t loads₀ answered₀ p₀ loads answered p =
-    (p ≤ n) × (length loads ≡ n) × ((take p loads ≡ eachBelow (loadAt (own .0) d times t) p) × (answered ≡ maskBelow (answers (own .0) d times t) p))
+Inv-loop n own d times t loads₀ answered₀ p₀ loads answered p = Loaded n (own .0) d times t loads answered p
 
 abbrev μ-loop : tie.MeasureT-loop
 μ-loop n own d times t loads₀ answered₀ p₀ loads answered p = n - p
@@ -29,9 +25,7 @@ loads-at-spec =
     (tie.spec
     Inv-loop
     μ-loop
-    (λ c.
-    let a = c .before .before .args in
-    (search needs, search needs, (each-none (loadAt (a .own .0) (a .d) (a .times .now) (a .t)), mask-none (answers (a .own .0) (a .d) (a .times .now) (a .t)))))
+    (λ c. (search filled-none, search mask-none))
     (λ c κs.
     let s = c .before .before .before .before in
     (search needs, row-inside _ _ _ _ (s .pre .2) (c .loop-test .taken)))
@@ -47,19 +41,13 @@ loads-at-spec =
     let y = c .before in
     let l = y .before .before in
     let a = l .before .before .before .args in
-    let h : l .loop .p < length (l .loop .loads) = omega arith in (
-      omega arith,
-      ⊎-elim (λ w. rw (w .1, length-set) (l .loop .inv .1)) (λ w. rw (w .2, length-set) (l .loop .inv .1)) (c .if1 .came),
-      ⊎-elim
-          (λ w. next-silent (a .own .0) (a .d) (a .times .now) (a .t) _ _ _ _ (l .loop .inv .2 .0) (l .loop .inv .2 .1) (y .run-at .ensures) h (w .0 .taken) (w .1) (w .2))
-          (λ w. next-answers (a .own .0) (a .d) (a .times .now) (a .t) _ _ _ _ (l .loop .inv .2 .0) (l .loop .inv .2 .1) (y .run-at .ensures) h (w .0 .left) (w .2) (w .3 ∙ w .1 .ensures))
-          (c .if1 .came),
-    ))
-    (λ c. c .before .loop .inv .1 ∙ sym (c .before .before .before .before .pre .3))
+    ⊎-elim
+    (λ w. next-silent (a .n) (a .own .0) (a .d) (a .times .now) (a .t) _ _ _ _ (l .loop .inv) (y .run-at .ensures) (omega arith) (w .0 .taken) (w .1) (w .2))
+    (λ w. next-answers (a .n) (a .own .0) (a .d) (a .times .now) (a .t) _ _ _ _ (l .loop .inv) (y .run-at .ensures) (omega arith) (w .0 .left) (w .2) (w .3 ∙ w .1 .ensures))
+    (c .if1 .came))
+    (λ c. c .before .loop .inv .0 .1 ∙ sym (c .before .before .before .before .pre .3))
     (λ c.
     let l = c .before in
     let a = l .before .before .before .args in
-    let e : l .loop .p ≡ a .n = omega arith in (
-      l .loop .inv .2 .1 ∙ ap (maskBelow (answers (a .own .0) (a .d) (a .times .now) (a .t))) e,
-      sym (take-all (a .n) (l .loop .loads) (omega arith)) ∙ each-done (loadAt (a .own .0) (a .d) (a .times .now) (a .t)) (l .loop .loads) (l .loop .p) (l .loop .inv .2 .0) (a .n) (omega arith) (omega arith),
-    )))
+    let e : l .loop .p ≡ a .n = omega arith in
+    (l .loop .inv .1 ∙ ap (maskBelow (answers (a .own .0) (a .d) (a .times .now) (a .t))) e, filled-done _ _ _ _ (l .loop .inv .0) (omega arith))))

@@ -1,5 +1,6 @@
 -- `decimals::power` meets its contract. Assumes nothing.
 use native.Mathlib.Omega.{arith}
+use borrow.Author.Needs.{needs}
 use Rattle.decimals.specs.DigitLaws.{room-for, spelt-small}
 use Rattle.decimals.proofs.power.Statement.{statement}
 use Rattle.decimals.proofs.power.Tie as tie
@@ -8,7 +9,8 @@ pub power-spec : {M : Type 1} → statement M
 power-spec =
     tie.close
     (tie.spec
-    (λ c κs. let p = c .before .pre in (p .0, room-for _ 15 (omega arith)))
+    (λ c κs. search needs)
     (λ c.
     let p = c .before .before .pre in
-    (c .spelt .ensures, rw (c .spelt .ensures) (spelt-small _ 4 (p .0) (p .1)))))
+    let e = c .read-digits .ensures .1 (p .0) (room-for _ 15 (omega arith)) in
+    (e, rw e (spelt-small _ 4 (p .0) (p .1)))))

@@ -1,18 +1,15 @@
 -- `layout::heard_loads` meets its contract. Assumes nothing.
-use mathlib.Core.Path.{_≡_, refl, sym, _∙_}
-use Prim.Native.Nat.{_≤_, _-_}
+use Prim.Native.Nat.{_-_}
 use native.Mathlib.Omega.{arith}
 use borrow.Author.Needs.{needs}
-use lib.ListN.{length, take, length-set}
-use lib.Seq.{take-all}
-use Rattle.lists.specs.Below.{eachBelow}
-use Rattle.lists.proofs.BelowLoops.{each-none, each-more, each-done}
+use lib.ListN.{length}
+use Rattle.lists.proofs.BelowLoops.{Filled, filled-none, filled-more, filled-done}
 use Rattle.layout.specs.Layout.{heardLoad, heardLoads}
 use Rattle.layout.proofs.heard_loads.Statement.{statement}
 use Rattle.layout.proofs.heard_loads.Tie as tie
 
 abbrev Inv-loop : tie.InvT-loop
-Inv-loop answered loads heard₀ s₀ heard s = (s ≤ length loads) × (length heard ≡ length heard₀) × (take s heard ≡ eachBelow (heardLoad answered loads) s)
+Inv-loop answered loads heard₀ s₀ heard s = Filled (heardLoad answered loads) (length loads) heard s
 
 abbrev μ-loop : tie.MeasureT-loop
 μ-loop answered loads heard₀ s₀ heard s = length loads - s
@@ -24,7 +21,7 @@ heard-loads-spec =
     (tie.spec
     Inv-loop
     μ-loop
-    (λ c. (search needs, refl, search each-none))
+    (λ c. search filled-none)
     (λ c. search needs)
     (λ c. search needs)
     (λ c κs. search needs)
@@ -32,11 +29,6 @@ heard-loads-spec =
     (λ c. search needs)
     (λ c. search needs)
     (λ c. search needs)
-    (λ c.
-    let l = c .before .before .before .loop in
-    (search needs, simp length-set (l .inv .1), each-more _ _ _ (l .inv .2) _ (omega arith) (c .heard-load .ensures)))
-    (λ c. search needs)
-    (λ c.
-    let l = c .before .loop in
-    let n = length (c .before .before .before .before .args .loads .now) in
-    sym (take-all n (l .heard) (omega arith)) ∙ each-done _ _ _ (l .inv .2) _ (l .inv .0) (c .loop-test .left)))
+    (λ c. search filled-more)
+    (λ c. omega arith)
+    (λ c. search filled-done))

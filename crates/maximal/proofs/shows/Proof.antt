@@ -1,5 +1,4 @@
 -- `maximal::shows` meets its contract. Assumes nothing.
-use mathlib.Core.Path.{sym, _∙_}
 use borrow.Author.Needs.{needs}
 use Rattle.maximal.specs.Tables.{flagged}
 use Rattle.maximal.proofs.Turns.{in-word, in-table, no-wrap, no-overflow, shown-by}

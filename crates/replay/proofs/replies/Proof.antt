@@ -1,5 +1,5 @@
 -- `replay::replies` is safe and ends. Assumes nothing.
-use Prim.Native.Nat.{_≤_, _-_}
+use Prim.Native.Nat.{_-_}
 use borrow.Author.Needs.{needs}
 use Rattle.replay.proofs.replies.Statement.{statement}
 use Rattle.replay.proofs.replies.Tie as tie

@@ -1,5 +1,4 @@
 -- `stored::hexadecimal` is safe and ends. Assumes nothing.
-use mathlib.Core.Path.{_≡_}
 use Prim.Native.Nat.{_≤_, _-_}
 use borrow.Author.Needs.{needs}
 use lib.ListN.{length}

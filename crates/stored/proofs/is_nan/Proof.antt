@@ -1,5 +1,4 @@
 -- `stored::is_nan` meets its contract. Assumes nothing.
-use borrow.Author.Needs.{needs}
 use borrow.Author.Tests.{eq-eqb, ne-eqb}
 use lib.Ieee.{nanBits}
 use Rattle.stored.proofs.is_nan.Statement.{statement}
