@@ -147,26 +147,29 @@ fn wrong(number: u64, what: &[u8], word: &[u8]) -> bool {
 
 // Whether every key is there, and a line for every peer.
 pub fn is_whole(text: &[u8]) -> bool {
+    let group = has_group(text);
+    let counts = has_counts(text);
+    let values = has_values(text);
+    let peers = has_peers(text, group);
+    group & counts & values & peers
+}
+
+fn has_group(text: &[u8]) -> bool {
     let population = has(text, b"population");
-    let own = has(text, b"own");
+    population & has(text, b"own")
+}
+
+fn has_counts(text: &[u8]) -> bool {
     let tolerance = has(text, b"tolerance");
     let quorum = has(text, b"quorum");
-    let shards = has(text, b"data-shards");
+    tolerance & quorum & has(text, b"data-shards")
+}
+
+fn has_values(text: &[u8]) -> bool {
     let width = has(text, b"width");
     let size = has(text, b"size");
     let penalty = has(text, b"penalty");
-    let profile = has(text, b"profile");
-    let peers = has_peers(text, population && own);
-    population
-        && own
-        && tolerance
-        && quorum
-        && shards
-        && width
-        && size
-        && penalty
-        && profile
-        && peers
+    width & size & penalty & has(text, b"profile")
 }
 
 fn has(text: &[u8], key: &[u8]) -> bool {
