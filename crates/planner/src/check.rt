@@ -156,17 +156,8 @@ pub fn is_complete(text: &[u8]) -> bool {
     let size = has(text, b"size");
     let penalty = has(text, b"penalty");
     let profile = has(text, b"profile");
-    let peers = has_peers(text, population && own);
-    population
-        && own
-        && tolerance
-        && quorum
-        && shards
-        && width
-        && size
-        && penalty
-        && profile
-        && peers
+    let peers = has_peers(text, population & own);
+    population & own & tolerance & quorum & shards & width & size & penalty & profile & peers
 }
 
 fn has(text: &[u8], key: &[u8]) -> bool {

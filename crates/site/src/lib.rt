@@ -143,39 +143,21 @@ fn is_of(s: &[u8], key: &[u8], from: u64, to: u64) -> bool {
 
 // Whether a description has this key.
 pub fn is_key(s: &[u8]) -> bool {
-    if is_number_key(s) {
-        return true;
-    }
-    if numerals::same(s, b"width") {
-        return true;
-    }
-    if numerals::same(s, b"penalty") {
-        return true;
-    }
-    if numerals::same(s, b"profile") {
-        return true;
-    }
-    numerals::same(s, b"peer")
+    is_number_key(s)
+        | numerals::same(s, b"width")
+        | numerals::same(s, b"penalty")
+        | numerals::same(s, b"profile")
+        | numerals::same(s, b"peer")
 }
 
 // Whether it is one whose value is a whole number.
 pub fn is_number_key(s: &[u8]) -> bool {
-    if numerals::same(s, b"population") {
-        return true;
-    }
-    if numerals::same(s, b"own") {
-        return true;
-    }
-    if numerals::same(s, b"tolerance") {
-        return true;
-    }
-    if numerals::same(s, b"quorum") {
-        return true;
-    }
-    if numerals::same(s, b"data-shards") {
-        return true;
-    }
-    numerals::same(s, b"size")
+    numerals::same(s, b"population")
+        | numerals::same(s, b"own")
+        | numerals::same(s, b"tolerance")
+        | numerals::same(s, b"quorum")
+        | numerals::same(s, b"data-shards")
+        | numerals::same(s, b"size")
 }
 
 // What a line says after its key.
@@ -345,19 +327,11 @@ fn is_stranger(s: &[u8], k: usize) -> bool {
 }
 
 fn is_name(s: &[u8]) -> bool {
-    if numerals::same(s, b"slope") {
-        return true;
-    }
-    if numerals::same(s, b"delay") {
-        return true;
-    }
-    if numerals::same(s, b"jitter") {
-        return true;
-    }
-    if numerals::same(s, b"downtime") {
-        return true;
-    }
-    numerals::same(s, b"in-flight")
+    numerals::same(s, b"slope")
+        | numerals::same(s, b"delay")
+        | numerals::same(s, b"jitter")
+        | numerals::same(s, b"downtime")
+        | numerals::same(s, b"in-flight")
 }
 
 // The value of a name among the words of a peer; empty if it has none.

@@ -165,31 +165,29 @@ fn reply_refusal(
 ) -> u8
     ensures { λ r. ⌜ r ≡ replyRefusal t (told (source .0) ballot high low row (now (faults .entry))) ⌝ }
 {
-    let n = t.population;
-    let w = t.width;
-    let rows = t.rows;
-    if !refusals::is_population(n) {
+    if !refusals::is_population(t.population) {
         return refusals::POPULATION;
     }
-    if !refusals::is_replica(n, source) {
+    if !refusals::is_replica(t.population, source) {
         return refusals::REPLICA;
     }
-    if !refusals::is_shards(t.data_shards, w) {
+    if !refusals::is_shards(t.data_shards, t.width) {
         return refusals::SHARDS;
     }
-    if !refusals::is_quorum(n, t.quorum) {
+    if !refusals::is_quorum(t.population, t.quorum) {
         return refusals::QUORUM;
     }
-    if !refusals::is_mask(n, t.heard) {
+    if !refusals::is_mask(t.population, t.heard) {
         return refusals::MASK;
     }
-    if !refusals::are_rows(w, &rows[..n]) {
+    let rows = t.rows;
+    if !refusals::are_rows(t.width, &rows[..t.population]) {
         return refusals::MASK;
     }
-    if !refusals::is_row(w, row) {
+    if !refusals::is_row(t.width, row) {
         return refusals::MASK;
     }
-    if !refusals::is_fault_list(n, faults) {
+    if !refusals::is_fault_list(t.population, faults) {
         return refusals::TABLE;
     }
     if !is_same_value(t, ballot, high, low) {

@@ -34,7 +34,9 @@ best-step-spec =
     let a = s .args in
     let e = steps-all (a .d) (a .majority) (s .pre .0 .4) (s .pre .0 .7) in
     (omega arith, omega arith, e, least-starts totalLe (timeOfStep (a .n) (a .f) (a .own .0) (a .d) (a .majority) (a .size) (a .inflight) (a .models)) _ (c .time-of-step .ensures)))
-    (λ c κs. search needs)
+    (λ c κs.
+    let g = c .before .before .before .pre in
+    ((g .0 .0, g .0 .1, g .0 .2, g .0 .3, g .0 .4, g .0 .5, g .0 .6, rw (c .before .loop .inv .2) at (c .loop-test .taken), g .0 .8), g .1))
     (λ c κs. search needs)
     (λ c. search needs)
     (λ c. search needs)
