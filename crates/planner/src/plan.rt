@@ -1,5 +1,4 @@
 // A description's fault list, its plan and, where there is none, its full copies. The first entry that refuses ends it.
-use crate::check;
 use crate::print;
 use assignment::Pick;
 use bitmap::ReplicaId;
@@ -16,10 +15,10 @@ use times::PeerRecord;
 const MOST_SETS: usize = 12870;
 
 pub fn plan(text: &[u8]) {
-    if !check::are_lines(text) {
+    if !site_check::are_lines(text) {
         return;
     }
-    if !check::is_complete(text) {
+    if !site_check::is_complete(text) {
         return;
     }
     let n = site::number_of(text, b"population") as usize;
@@ -27,7 +26,7 @@ pub fn plan(text: &[u8]) {
     let a = r.answer;
     match a {
         Reading::Refused(no) => {
-            check::refused(text, no);
+            site_check::refused(text, no);
         }
         Reading::Read => {
             let p = r.profile;
@@ -43,7 +42,7 @@ fn survive(text: &[u8], n: usize, p: Profile, list: &mut [u64], rows: &mut [u64]
     let f = site::number_of(text, b"tolerance") as usize;
     match faults::fault_list(n, f, p, list) {
         Listed::Refused(no) => {
-            check::refused(text, no);
+            site_check::refused(text, no);
         }
         Listed::Count(k) => {
             listed(text, n, p, k, list, rows);
@@ -59,7 +58,7 @@ fn listed(text: &[u8], n: usize, p: Profile, k: usize, list: &[u64], rows: &mut 
         return;
     }
     print::faults(&list[..k]);
-    if !check::are_peers(text, n) {
+    if !site_check::are_peers(text, n) {
         return;
     }
     pick(text, n, p, &list[..k], &mut rows[..n]);
@@ -82,7 +81,7 @@ fn pick(text: &[u8], n: usize, p: Profile, list: &[u64], rows: &mut [u64]) {
         rows,
     ) {
         Pick::Refused(no) => {
-            check::refused(text, no);
+            site_check::refused(text, no);
         }
         Pick::NoPlan => {
             io::write_all(1, b"none: at no time does a layout commit\n");
@@ -99,7 +98,7 @@ fn pick(text: &[u8], n: usize, p: Profile, list: &[u64], rows: &mut [u64]) {
 fn copies(text: &[u8], n: usize, own: usize, d: usize, total: TotalShards, rows: &mut [u64]) {
     match assignment::full_copies(n, d, total, rows) {
         Laid::Refused(no) => {
-            check::refused(text, no);
+            site_check::refused(text, no);
         }
         Laid::Width(w) => {
             io::write_all(1, b"full copies\n");

@@ -1,8 +1,8 @@
--- `planner::check::has_peers` is safe and ends. Assumes nothing.
+-- `site_check::has_peers` is safe and ends. Assumes nothing.
 use Prim.Native.Nat.{_-_}
 use borrow.Author.Needs.{needs}
-use Rattle.planner.proofs.check.has_peers.Statement.{statement}
-use Rattle.planner.proofs.check.has_peers.Tie as tie
+use Rattle.site_check.proofs.has_peers.Statement.{statement}
+use Rattle.site_check.proofs.has_peers.Tie as tie
 
 abbrev Inv-loop : tie.InvT-loop
 Inv-loop text known n own all₀ p₀ all p = Unit {0}

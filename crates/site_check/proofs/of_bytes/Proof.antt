@@ -1,8 +1,8 @@
--- `planner::check::of_bytes` is safe and ends. Assumes nothing.
+-- `site_check::of_bytes` is safe and ends. Assumes nothing.
 use Prim.Native.Nat.{_-_}
 use borrow.Author.Needs.{needs}
-use Rattle.planner.proofs.check.of_bytes.Statement.{statement}
-use Rattle.planner.proofs.check.of_bytes.Tie as tie
+use Rattle.site_check.proofs.of_bytes.Statement.{statement}
+use Rattle.site_check.proofs.of_bytes.Tie as tie
 
 abbrev Inv-loop : tie.InvT-loop
 Inv-loop text own p₀ t7 p = Unit {0}

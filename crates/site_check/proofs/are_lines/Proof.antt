@@ -1,9 +1,9 @@
--- `planner::check::are_lines` is safe and ends. Assumes nothing.
+-- `site_check::are_lines` is safe and ends. Assumes nothing.
 use Prim.Native.Nat.{_≤_, _-_}
 use borrow.Author.Needs.{needs}
 use lib.ListN.{length}
-use Rattle.planner.proofs.check.are_lines.Statement.{statement}
-use Rattle.planner.proofs.check.are_lines.Tie as tie
+use Rattle.site_check.proofs.are_lines.Statement.{statement}
+use Rattle.site_check.proofs.are_lines.Tie as tie
 
 abbrev Inv-loop : tie.InvT-loop
 Inv-loop text at₀ number₀ at number = at ≤ length text
