@@ -32,7 +32,7 @@ pub enum Width {
 
 // ---- lines and words
 
-// What the line at a place says: without its comment, trimmed.
+// What the line at a place says.
 pub fn line(text: &[u8], at: usize) -> &[u8] {
     if text.len() < at {
         return &text[..0];
@@ -48,6 +48,7 @@ pub fn line_end(text: &[u8], at: usize) -> usize
     at + numerals::part(text, at, b'\n').len()
 }
 
+// A line without its comment, trimmed.
 fn said(s: &[u8]) -> &[u8] {
     numerals::trimmed(numerals::part(s, 0, b'#'))
 }
@@ -276,8 +277,7 @@ pub fn peer(text: &[u8], p: u64) -> &[u8] {
     value(line(text, q.at))
 }
 
-// Word 0 of the value is the peer's number; a heard one has a name at each odd place and its value after it.
-
+// Whether a peer is silent. Word 0 of what its line says is its number; a heard one has a name at each odd place and its value after it.
 pub fn is_silent(s: &[u8]) -> bool {
     numerals::same(word(s, 1), b"silent")
 }
@@ -320,18 +320,24 @@ fn is_stranger(s: &[u8], k: usize) -> bool {
     if name.len() == 0 {
         return false;
     }
-    if !is_name(name) {
+    if !is_name(s, name) {
         return true;
     }
     name_at(s, name) != k
 }
 
-fn is_name(s: &[u8]) -> bool {
-    numerals::same(s, b"slope")
-        | numerals::same(s, b"delay")
-        | numerals::same(s, b"jitter")
-        | numerals::same(s, b"downtime")
-        | numerals::same(s, b"in-flight")
+// Whether a word is a name that the peer may have.
+fn is_name(s: &[u8], name: &[u8]) -> bool {
+    if numerals::same(name, b"in-flight") {
+        return true;
+    }
+    if is_silent(s) {
+        return false;
+    }
+    numerals::same(name, b"slope")
+        | numerals::same(name, b"delay")
+        | numerals::same(name, b"jitter")
+        | numerals::same(name, b"downtime")
 }
 
 // The value of a name among the words of a peer; empty if it has none.
