@@ -1,7 +1,8 @@
 //! How much stack each function takes: it is called on a thread whose stack is painted beforehand,
-//! and the paint that is gone below the caller's frame is counted, less what an empty call takes
-//! (frames of the bindings included, a part of a frame that nothing writes left out). `-- smallest` also runs
-//! `fault_list` on smaller and smaller stacks, each in a process of its own, until one overflows.
+//! and the paint that is gone below the caller's frame is counted, less what an empty call takes.
+//! Frames of the bindings are included; a part of a frame that nothing writes is not. With the word
+//! `smallest` it also runs `fault_list` on larger and larger stacks, each in a process of its own,
+//! until it fits.
 
 use std::alloc::{Layout, alloc_zeroed};
 use std::env;
