@@ -9,10 +9,10 @@ use native.Mathlib.Nat.{le-refl, mod-eq-of-lt}
 use native.Mathlib.Decide.{le-ind}
 use native.Mathlib.Omega.{arith}
 use lib.Dec.{ltb}
-use lib.ListN.{length, getD, take}
+use lib.ListN.{length, getD, take, length-append, List·getD-append}
 use lib.Pow.{pow-mono, ones-lt}
-use lib.Seq.{take-suc, take-length}
-use borrow.Author.Tests.{ltb-true, ltb-false, lt-ltb}
+use lib.Seq.{take-suc, take-length, take-append-le, take-append-add, getD-append-add}
+use borrow.Author.Tests.{ltb-true, ltb-false, lt-ltb, le-ltb}
 use Rattle.lists.specs.All.{all}
 use Rattle.lists.specs.BelowLaws.{each-below-length, each-below-at, each-below-all}
 use Rattle.bitmap.specs.Mask.{bit, count, run, runModulo, rowIn}
@@ -26,7 +26,7 @@ use Rattle.refusals.specs.Limits.{isRow}
 use Rattle.coverage.specs.CoverageLaws.{Survives, commits-means}
 use Rattle.layout.specs.declared.TotalShards.{TotalShards}
 use Rattle.layout.specs.declared.TotalShards.the-variants.{Exactly, AtMost}
-use Rattle.layout.specs.Layout.{Fit, bound, dealt, partial, widthOf, rowFor, rowAt, rowsOf, layoutCommits, heardLoad, heardLoads, rowsRefusal, layoutRowsOf, commitsRefusal, layoutCommitsOf}
+use Rattle.layout.specs.Layout.{Fit, bound, dealt, partial, widthFor, widthOf, rowFor, rowAt, rowsOf, layoutCommits, heardLoad, heardLoads, rowsRefusal, layoutRowsOf, commitsRefusal, layoutCommitsOf}
 
 -- ---- what is dealt
 
@@ -54,6 +54,27 @@ partial-mono d loads i j h =
 pub partial-le : (d b : ℕ) (ks : List ℕ) → d ≤ b → partial d ks ≤ b * length ks
 partial-le d b [] h = omega arith
 partial-le d b (k ∷ ks) h = omega (arith, partial-le d b ks h, dealt-le d k)
+
+-- a full load does not move the offset
+dealt-full : (d k : ℕ) → d ≤ k → dealt d k ≡ 0
+dealt-full d k h = rw (le-ltb k d h)
+
+pub partial-full : (d : ℕ) (ks : List ℕ) (k : ℕ) → d ≤ k → partial d (ks ++ (k ∷ [])) ≡ partial d ks
+partial-full d ks k h = omega (arith, partial-more d ks k, dealt-full d k h)
+
+module _ (d : ℕ) (loads : List ℕ) (s : ℕ) (known : s < length loads) where
+  -- after a replica with a full load the offset is what it was
+  pub offset-full : d ≤ getD loads s 0 → partial d (take (suc s) loads) ≡ partial d (take s loads)
+  offset-full h = omega (arith, partial-upto d loads s known, dealt-full d (getD loads s 0) h)
+
+  -- and after one with a load below d it is that load further on
+  pub offset-below : getD loads s 0 < d → partial d (take (suc s) loads) ≡ partial d (take s loads) + getD loads s 0
+  offset-below h = partial-upto d loads s known ∙ rw (lt-ltb (getD loads s 0) d h)
+
+-- so a full load may be left out
+partial-without : (d : ℕ) (us vs : List ℕ) (k : ℕ) → d ≤ k → partial d (us ++ (k ∷ vs)) ≡ partial d (us ++ vs)
+partial-without d [] vs k h = omega (arith, dealt-full d k h)
+partial-without d (u ∷ us) vs k h = ap (λ (m : ℕ). dealt d u + m) (partial-without d us vs k h)
 
 -- ---- the width
 
@@ -85,6 +106,12 @@ module _ (d : ℕ) (total : TotalShards) (loads : List ℕ) where
       go (AtMost w) l = omega (arith, width-at-most d w loads)
 
 -- ---- a row
+
+-- that of a full load is the shards 0 to d - 1
+row-full : (d w offset k : ℕ) → d ≤ k → rowFor d w offset k ≡ run 0 d
+unfolding rowFor
+row-full d w offset k h = rw (le-ltb k d h)
+
 module _ (d w offset k : ℕ) (h : Fit d w) where
   -- of shards below the width
   row-below : isRow w (rowFor d w offset k) ≡ true
@@ -115,6 +142,10 @@ module _ (d : ℕ) (total : TotalShards) (loads : List ℕ) where
   unfolding rowsOf
   row-at s l = each-below-at (rowAt d (widthOf d total loads) loads) (length loads) s 0 l
 
+  -- that of a full load is the shards 0 to d - 1
+  pub rows-full : (s : ℕ) → s < length loads → d ≤ getD loads s 0 → rowIn (rowsOf d total loads) s ≡ run 0 d
+  rows-full s l h = row-at s l ∙ row-full d (widthOf d total loads) (partial d (take s loads)) (getD loads s 0) h
+
   module _ (h : Fit d (bound total)) where
     -- of shards below the width: with `rows-length`, they pass the checks of `covers` for 16 and 17
     pub rows-below : all (isRow (widthOf d total loads)) (rowsOf d total loads) ≡ true
@@ -128,6 +159,40 @@ module _ (d : ℕ) (total : TotalShards) (loads : List ℕ) where
     pub rows-count : (s : ℕ) → s < length loads → count (rowIn (rowsOf d total loads) s) ≡ min (getD loads s 0) d
     rows-count s l =
         ap count (row-at s l) ∙ row-count d (widthOf d total loads) (partial d (take s loads)) (getD loads s 0) (width-fits d total loads h)
+
+-- ---- without a replica that has a full load the width and the rows of all others are the same
+module _ (d : ℕ) (total : TotalShards) (us vs : List ℕ) (k : ℕ) (full : d ≤ k) where
+  pub width-without : widthOf d total (us ++ (k ∷ vs)) ≡ widthOf d total (us ++ vs)
+  unfolding widthOf
+  width-without = ap (widthFor d total) (partial-without d us vs k full)
+
+  -- the rows of those before it
+  pub rows-before : (s : ℕ) → s < length us → rowIn (rowsOf d total (us ++ (k ∷ vs))) s ≡ rowIn (rowsOf d total (us ++ vs)) s
+  rows-before s l =
+      let h : s ≤ length us = omega arith in
+      rw (
+        row-at d total (us ++ (k ∷ vs)) s (omega (arith, length-append us (k ∷ vs))),
+        row-at d total (us ++ vs) s (omega (arith, length-append us vs)),
+        width-without,
+        take-append-le s us (k ∷ vs) h,
+        take-append-le s us vs h,
+        List·getD-append us (k ∷ vs) 0 s l,
+        List·getD-append us vs 0 s l,
+      )
+
+  -- and of those after it
+  pub rows-after : (i : ℕ) → i < length vs → rowIn (rowsOf d total (us ++ (k ∷ vs))) (length us + suc i) ≡ rowIn (rowsOf d total (us ++ vs)) (length us + i)
+  rows-after i l =
+      rw (
+        row-at d total (us ++ (k ∷ vs)) (length us + suc i) (omega (arith, length-append us (k ∷ vs))),
+        row-at d total (us ++ vs) (length us + i) (omega (arith, length-append us vs)),
+        width-without,
+        take-append-add us (k ∷ vs) (suc i),
+        take-append-add us vs i,
+        getD-append-add us (k ∷ vs) (suc i) 0,
+        getD-append-add us vs i 0,
+        partial-without d us (take i vs) k full,
+      )
 
 -- ---- shards that are dealt: where they fit the width, no two rows of loads below d share one
 
