@@ -72,7 +72,7 @@ module _ (d : ℕ) (loads : List ℕ) (s : ℕ) (known : s < length loads) where
   offset-below h = partial-upto d loads s known ∙ rw (lt-ltb (getD loads s 0) d h)
 
 -- so a full load may be left out
-partial-without : (d : ℕ) (us vs : List ℕ) (k : ℕ) → d ≤ k → partial d (us ++ (k ∷ vs)) ≡ partial d (us ++ vs)
+pub partial-without : (d : ℕ) (us vs : List ℕ) (k : ℕ) → d ≤ k → partial d (us ++ (k ∷ vs)) ≡ partial d (us ++ vs)
 partial-without d [] vs k h = omega (arith, dealt-full d k h)
 partial-without d (u ∷ us) vs k h = ap (λ (m : ℕ). dealt d u + m) (partial-without d us vs k h)
 
