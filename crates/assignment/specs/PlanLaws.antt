@@ -173,17 +173,13 @@ module _ (n own quorum d : ℕ) (total : TotalShards) (faults : List ℕ) (times
 module _ (n own quorum d : ℕ) (total : TotalShards) (faults : List ℕ) (times : List Float) (t : Float) where
   pub loads-for-length : length (loadsFor n own quorum d total faults times t) ≡ n
   unfolding loadsFor
-  loads-for-length =
-      trimmed-length (layoutCommits n quorum d total (answeredAt own d times t n) faults) (trimOrder n own d times) (loadsAt own d times t n)
-      ∙ loads-length own d times t n
+  loads-for-length = trimmed-length _ _ (loadsAt own d times t n) ∙ loads-length own d times t n
 
   -- our own is d: trimming does not try it
   pub own-load-for : own < n → getD (loadsFor n own quorum d total faults times t) own 0 ≡ d
   unfolding loadsFor
   own-load-for l =
-      trimmed-other (layoutCommits n quorum d total (answeredAt own d times t n) faults) own (trimOrder n own d times)
-      (λ m. order-listed d times n own own .0 m .1 refl) (loadsAt own d times t n)
-      ∙ own-load own d times t n own l refl
+      trimmed-other _ own _ (λ m. order-listed d times n own own .0 m .1 refl) (loadsAt own d times t n) ∙ own-load own d times t n own l refl
 
 -- ---- `pick_assignment`
 

@@ -12,7 +12,7 @@ use lib.Dec.{ltb}
 use lib.ListN.{length, getD, take, length-append, List·getD-append}
 use lib.Pow.{pow-mono, ones-lt}
 use lib.Seq.{take-suc, take-length, take-append-le, take-append-add, getD-append-add}
-use borrow.Author.Tests.{ltb-true, ltb-false, lt-ltb, le-ltb}
+use borrow.Author.Tests.{ltb-true, ltb-false, lt-ltb, le-ltb, eq-eqb, ne-eqb}
 use Rattle.lists.specs.All.{all}
 use Rattle.lists.specs.BelowLaws.{each-below-length, each-below-at, each-below-all}
 use Rattle.bitmap.specs.Mask.{bit, count, run, runModulo, rowIn}
@@ -26,7 +26,7 @@ use Rattle.refusals.specs.Limits.{isRow}
 use Rattle.coverage.specs.CoverageLaws.{Survives, commits-means}
 use Rattle.layout.specs.declared.TotalShards.{TotalShards}
 use Rattle.layout.specs.declared.TotalShards.the-variants.{Exactly, AtMost}
-use Rattle.layout.specs.Layout.{Fit, bound, dealt, partial, widthFor, widthOf, rowFor, rowAt, rowsOf, layoutCommits, heardLoad, heardLoads, rowsRefusal, layoutRowsOf, commitsRefusal, layoutCommitsOf}
+use Rattle.layout.specs.Layout.{Fit, bound, dealt, partial, widthFor, widthOf, rowFor, rowAt, rowsOf, layoutCommits, heardLoad, heardLoads, rowsRefusal, layoutRowsOf, rowsWritten, commitsRefusal, layoutCommitsOf, trialWritten}
 
 -- ---- what is dealt
 
@@ -230,6 +230,14 @@ module _ (answered : ℕ) (loads : List ℕ) where
   unfolding heardLoads
   heard-at s l = each-below-at (heardLoad answered loads) (length loads) s 0 l
 
+  -- that of one that answers is as given, and that of one that does not is 0
+  module _ (s : ℕ) (known : s < length loads) where
+    pub heard-given : bit answered s ≡ 1 → getD (heardLoads answered loads) s 0 ≡ getD loads s 0
+    heard-given e = heard-at s known ∙ rw (eq-eqb (bit answered s) 1 e)
+
+    pub heard-silent : bit answered s ≡ 0 → getD (heardLoads answered loads) s 0 ≡ 0
+    heard-silent e = heard-at s known ∙ rw (ne-eqb (bit answered s) 1 (omega arith))
+
 -- ---- the entries
 
 -- `layout_rows` answers w exactly if nothing refuses, and w is the width
@@ -237,6 +245,12 @@ pub layout-rows-means : (n d : ℕ) (total : TotalShards) (loads : List ℕ) (ro
     → (layoutRowsOf n d total loads rows ≡ accepted w) ↔ ((rowsRefusal n d total (length loads) rows ≡ 0) × (widthOf d total loads ≡ w))
 unfolding layoutRowsOf
 layout-rows-means n d total loads rows w = accepted-means (rowsRefusal n d total (length loads) rows) (widthOf d total loads) w
+
+-- and its table then holds the rows
+pub rows-written : (n d : ℕ) (total : TotalShards) (loads rows : List ℕ) → rowsRefusal n d total (length loads) (length rows) ≡ 0
+    → rowsWritten n d total loads rows ≡ rowsOf d total loads
+unfolding rowsWritten
+rows-written n d total loads rows e = rw e
 
 -- `layout_commits` answers w and yes exactly if nothing refuses, w is the width, a quorum of different replicas answer, and without any one listed set there
 -- are d different shards, each in the row of one that answers outside it
@@ -255,3 +269,10 @@ layout-commits-means n quorum d total answered loads faults rows w =
       λ e. let q = c .0 (ap (λ (p : ℕ × Bool). p .1) (m .0 e .1)) in (m .0 e .0, ap (λ (p : ℕ × Bool). p .0) (m .0 e .1), q .0, q .1),
       λ h. m .1 (h .0, ap₂ (λ (x : ℕ) (y : Bool). (x, y)) (h .1) (c .1 (h .2, h .3))),
     )
+
+-- its table holds the rows of those that answer, also where it does not commit
+pub trial-written : (n quorum d : ℕ) (total : TotalShards) (answered : ℕ) (loads faults rows : List ℕ)
+    → commitsRefusal n quorum d total answered (length loads) faults (length rows) ≡ 0
+    → trialWritten n quorum d total answered loads faults rows ≡ rowsOf d total (heardLoads answered loads)
+unfolding trialWritten
+trial-written n quorum d total answered loads faults rows e = rw e
