@@ -6,7 +6,7 @@ use mathlib.Core.Bool.{Bool, true, false, cond}
 use mathlib.Core.List.{List, [], _∷_, _++_}
 use Prim.Native.Nat.{ℕ, suc, _+_, _*_, _%_, _^_, _≤_, _<_, min, max}
 use native.Mathlib.Nat.{le-refl, mod-eq-of-lt}
-use native.Mathlib.Decide.{le-ind}
+use native.Mathlib.Decide.{decLt, le-ind}
 use native.Mathlib.Omega.{arith}
 use lib.Dec.{ltb}
 use lib.ListN.{length, getD, take, length-append, List·getD-append}
@@ -30,12 +30,19 @@ use Rattle.layout.specs.Layout.{Fit, bound, dealt, partial, widthFor, wi
 
 -- ---- what is dealt
 
+-- all of a load below d, and nothing of a full one
+dealt-below : (d k : ℕ) → k < d → dealt d k ≡ k
+dealt-below d k h = rw (lt-ltb k d h)
+
+dealt-full : (d k : ℕ) → d ≤ k → dealt d k ≡ 0
+dealt-full d k h = rw (le-ltb k d h)
+
 dealt-le : (d k : ℕ) → dealt d k ≤ d
-dealt-le d k = go (ltb k d) refl
+dealt-le d k = go (decLt k d)
   where
-    go : (b : Bool) → ltb k d ≡ b → cond b k 0 ≤ d
-    go true q = omega (arith, ltb-true k d q)
-    go false q = omega arith
+    go : Dec (k < d) → dealt d k ≤ d
+    go (yes h) = omega (arith, dealt-below d k h)
+    go (no h) = omega (arith, dealt-full d k (omega arith))
 
 -- with one load more
 pub partial-more : (d : ℕ) (ks : List ℕ) (k : ℕ) → partial d (ks ++ (k ∷ [])) ≡ partial d ks + dealt d k
@@ -56,9 +63,6 @@ partial-le d b [] h = omega arith
 partial-le d b (k ∷ ks) h = omega (arith, partial-le d b ks h, dealt-le d k)
 
 -- a full load does not move the offset
-dealt-full : (d k : ℕ) → d ≤ k → dealt d k ≡ 0
-dealt-full d k h = rw (le-ltb k d h)
-
 pub partial-full : (d : ℕ) (ks : List ℕ) (k : ℕ) → d ≤ k → partial d (ks ++ (k ∷ [])) ≡ partial d ks
 partial-full d ks k h = omega (arith, partial-more d ks k, dealt-full d k h)
 
@@ -69,7 +73,7 @@ module _ (d : ℕ) (loads : List ℕ) (s : ℕ) (known : s < length loads) where
 
   -- and after one with a load below d it is that load further on
   pub offset-below : getD loads s 0 < d → partial d (take (suc s) loads) ≡ partial d (take s loads) + getD loads s 0
-  offset-below h = partial-upto d loads s known ∙ rw (lt-ltb (getD loads s 0) d h)
+  offset-below h = omega (arith, partial-upto d loads s known, dealt-below d (getD loads s 0) h)
 
 -- so a full load may be left out
 pub partial-without : (d : ℕ) (us vs : List ℕ) (k : ℕ) → d ≤ k → partial d (us ++ (k ∷ vs)) ≡ partial d (us ++ vs)
@@ -214,8 +218,8 @@ rows-apart d total loads fits i j s h l p q e f =
     let b = partial-upto d loads j l in
     let x = partial-mono d loads (suc i) j h (omega arith) in
     let y = partial-mono d loads (suc j) (length loads) l (le-refl (length loads)) in
-    let k = ap (λ (t : Bool). cond t (getD loads i 0) 0) (lt-ltb (getD loads i 0) d p) in
-    let m = ap (λ (t : Bool). cond t (getD loads j 0) 0) (lt-ltb (getD loads j 0) d q) in
+    let k = dealt-below d (getD loads i 0) p in
+    let m = dealt-below d (getD loads j 0) q in
     let u = dealt-from d w (partial d (take i loads)) (getD loads i 0) s p (omega arith) (ap (λ (r : ℕ). bit r s) (sym (row-at d total loads i (omega arith))) ∙ e) in
     let v = dealt-from d w (partial d (take j loads)) (getD loads j 0) s q (omega arith) (ap (λ (r : ℕ). bit r s) (sym (row-at d total loads j l)) ∙ f) in
     omega arith
