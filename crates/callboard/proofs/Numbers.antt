@@ -1,4 +1,4 @@
--- How the numbers that the code asks for, one after another, come to the first of the lists of cases. Assumes nothing.
+-- The numbers that the code asks for, one after another, are the first of the lists of cases. Assumes nothing.
 use mathlib.Core.Path.{_≡_, refl, sym, ap, _∙_}
 use mathlib.Core.Bool.{Bool, true, false, not, cond, _&&_, and-eq-true-iff}
 use mathlib.Core.List.{List, [], _∷_}
@@ -50,7 +50,7 @@ lists-past n faults rows = go (isFaultList n faults) (eqb rows n)
     go true false = refl
     go true true = refl
 
--- j below 16, then k, then l past it: what the code asks is k where the first of j and l is not below 16
+-- j is below 16 and l is not: the first of j and l, with k before it unless it is below 16, is the first of j, k and l
 joined : (j k l : ℕ) → j < 16 → isPast l ≡ true
     → otherwise (cond (not (isPast (otherwise j l))) (otherwise j l) k) (otherwise j l) ≡ otherwise j (otherwise k l)
 joined zero k l h p = rw p
