@@ -23,7 +23,7 @@ use Rattle.times.proofs.Worked as Worked
 use Rattle.trimming.specs.Order.{slower, peersOf, trimOrder}
 use Rattle.trimming.specs.Trimming.{keeps, tried, trimmedIn, trimmed}
 use Rattle.candidates.specs.Search.{runAt, answeredAt, loadsAt, commitsAt, firstTime}
-use Rattle.assignment.specs.Plans.{Plan, loadsFor, planOf, pickRefusal, pickOf, copiesRefusal, fullCopiesOf, copiesWritten}
+use Rattle.assignment.specs.Plans.{Plan, loadsFor, planOf, pickRefusal, pickOf, planned, copiesRefusal, fullCopiesOf, copiesWritten}
 
 -- ---- peers: of slope, delay, jitter, unreliability and bytes in flight
 abbrev heard : ℕ → ℕ → ℕ → ℕ → ℕ → PeerRecord
@@ -163,6 +163,14 @@ sheet =
 picks : map (λ (l : Line). told (pickOf (l .n) (l .own) (l .quorum) (l .d) (l .total) (l .size) (l .peers) (ofBits binary64 (l .penalty)) (l .faults) (l .rows))) sheet ≡ map (λ (l : Line). l .says) sheet
 unfolding line sheet pickOf pickRefusal peersFit someBelow isPopulation isShards isQuorum isFaultList planOf firstTime commitsAt answeredAt loadsAt runAt runFrom maskBelow eachBelow loadsFor shardLength timesOf timeAt replyTime settled predictOf isFinite add mul div ofInt ofBits toBits le totalLe layoutCommits commits isCovered leaves unionOf count widthOf rowFor rowsOf gather trimmed trimmedIn tried keeps trimOrder peersOf thoseBelow slower lowerBy upperBy
 picks = refl
+
+-- the lent table at exit, of a quorum and the peers: a plan's rows; and what it held, where both peers are silent, and where the quorum is refused
+abbrev table : ℕ → List PeerRecord → List ℕ
+table quorum peers = planned (pickOf 3 0 quorum 2 (AtMost 3) 2097152 peers (ofBits binary64 0) ones 3) (9 ∷ 9 ∷ 9 ∷ [])
+
+tables : (table 2 both ∷ table 2 (silent ∷ silent ∷ silent ∷ []) ∷ table 4 both ∷ []) ≡ ((3 ∷ 1 ∷ 2 ∷ []) ∷ (9 ∷ 9 ∷ 9 ∷ []) ∷ (9 ∷ 9 ∷ 9 ∷ []) ∷ [])
+unfolding pickOf pickRefusal peersFit someBelow isPopulation isShards isQuorum isFaultList planOf firstTime commitsAt answeredAt loadsAt runAt runFrom maskBelow eachBelow loadsFor shardLength timesOf timeAt replyTime settled predictOf isFinite add mul div ofInt ofBits toBits le totalLe layoutCommits commits isCovered leaves unionOf count widthOf rowFor rowsOf gather trimmed trimmedIn tried keeps trimOrder peersOf thoseBelow slower lowerBy upperBy
+tables = refl
 
 -- ---- `full_copies`
 record Copy : Type 0 where

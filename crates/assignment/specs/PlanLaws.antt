@@ -1,16 +1,19 @@
--- What a plan and full copies are: what an unrefused input is in numbers, what is planned of it, and that its rows are rows of its width and survive.
+-- What a plan and full copies are: what an unrefused input is in numbers, what is planned of it, and that its rows are rows of its width and survive; full
+-- copies are the layout of n loads of d.
 -- Assumes nothing.
 use mathlib.Core.Path.{_≡_, refl, sym, ap, subst, _∙_}
 use mathlib.Core.Logic.{_↔_}
 use mathlib.Core.Bool.{Bool, true, false, cond}
-use mathlib.Core.List.{List, List·Memᴰ}
+use mathlib.Core.List.{List, [], List·Memᴰ}
 use mathlib.Core.Option.{Option, none, some}
-use Prim.Native.Nat.{ℕ, _^_, _≤_, _<_}
+use Prim.Native.Nat.{ℕ, zero, suc, _^_, _≤_, _<_}
+use native.Mathlib.Nat.{le-refl}
 use native.Mathlib.Decide.{decLt}
 use native.Mathlib.Omega.{arith}
 use lib.Ieee.{Float}
-use lib.ListN.{length, replicate, length-replicate, getD-replicate}
+use lib.ListN.{length, getD, replicate, length-replicate, getD-replicate}
 use lib.Pow.{pow-mono, ones-lt}
+use lib.Seq.{ext-getD}
 use borrow.Author.Tests.{eqb-true, eq-eqb, leb-true, le-leb, ltb-true, lt-ltb, not-false}
 use Rattle.lists.specs.All.{AllOf}
 use Rattle.lists.specs.AllLaws.{all-means}
@@ -23,7 +26,7 @@ use Rattle.refusals.specs.Numbers.{TRIMMED}
 use Rattle.refusals.specs.FirstLaws.{none-holds}
 use Rattle.refusals.specs.Limits.{isRow}
 use Rattle.refusals.specs.LimitLaws.{AreRows, population-means, shards-means, quorum-means, fault-list-means, peers-fit-means}
-use Rattle.refusals.specs.Outcome.{refused, accepted}
+use Rattle.refusals.specs.Outcome.{Outcome, refused, accepted, outcome, written}
 use Rattle.refusals.specs.OutcomeLaws.{checked-means, accepted-means}
 use Rattle.coverage.specs.Coverage.{coversOf}
 use Rattle.coverage.specs.CoverageLaws.{Survives, commits-means, covers-means}
@@ -31,16 +34,17 @@ use Rattle.coverage.specs.RefusalLaws.{FaultList, covers-sound}
 use Rattle.floats.specs.FirstLaws.{Fits}
 use Rattle.layout.specs.declared.TotalShards.{TotalShards}
 use Rattle.layout.specs.declared.TotalShards.the-variants.{Exactly, AtMost}
-use Rattle.layout.specs.Layout.{Fit, bound, widthOf, rowsOf, layoutCommits}
-use Rattle.layout.specs.LayoutLaws.{width-fits, rows-length, rows-below}
+use Rattle.layout.specs.Layout.{Fit, bound, partial, widthOf, rowsOf, layoutCommits, rowsRefusal, layoutRowsOf, rowsWritten}
+use Rattle.layout.specs.LayoutLaws.{partial-without, width-exactly, width-at-most, width-fits, rows-length, rows-full, rows-below}
 use Rattle.times.specs.declared.PeerRecord.{PeerRecord}
 use Rattle.times.specs.Times.{shardLength, timesOf, PeersInBounds}
 use Rattle.times.specs.TimeLaws.{times-fit}
 use Rattle.trimming.specs.Order.{trimOrder}
-use Rattle.trimming.specs.TrimmingLaws.{trimmed-length}
+use Rattle.trimming.specs.OrderLaws.{order-listed}
+use Rattle.trimming.specs.TrimmingLaws.{trimmed-length, trimmed-other}
 use Rattle.candidates.specs.Search.{candidates, answeredAt, loadsAt, commitsAt, firstTime}
-use Rattle.candidates.specs.SearchLaws.{Answering, answers-means, answered-below, loads-length, First, first-time-means, no-time-means}
-use Rattle.assignment.specs.Plans.{Plan, loadsFor, planAt, planOf, inFlight, pickCases, pickRefusal, pickOf, copiesCases, copiesRefusal, copiesWidth, fullCopiesOf, copiesWritten}
+use Rattle.candidates.specs.SearchLaws.{Answering, answers-means, answered-below, loads-length, own-load, First, first-time-means, no-time-means}
+use Rattle.assignment.specs.Plans.{Plan, loadsFor, planAt, planOf, inFlight, pickCases, pickRefusal, pickOf, planned, copiesCases, copiesRefusal, copiesWidth, fullCopiesOf, copiesWritten}
 
 -- ---- what an unrefused input is
 
@@ -164,6 +168,19 @@ module _ (n own quorum d : ℕ) (total : TotalShards) (faults : List ℕ) (times
       go none q e = q
       go (some t) q e = absurd (laid-some (holds-at t) (planned-at t) e)
 
+-- ---- its loads
+
+module _ (n own quorum d : ℕ) (total : TotalShards) (faults : List ℕ) (times : List Float) (t : Float) where
+  pub loads-for-length : length (loadsFor n own quorum d total faults times t) ≡ n
+  unfolding loadsFor
+  loads-for-length = trimmed-length _ _ (loadsAt own d times t n) ∙ loads-length own d times t n
+
+  -- our own is d: trimming does not try it
+  pub own-load-for : own < n → getD (loadsFor n own quorum d total faults times t) own 0 ≡ d
+  unfolding loadsFor
+  own-load-for l =
+      trimmed-other _ own _ (λ m. order-listed d times n own own .0 m .1 refl) (loadsAt own d times t n) ∙ own-load own d times t n own l refl
+
 -- ---- `pick_assignment`
 
 module _ (n own quorum d : ℕ) (total : TotalShards) (size : ℕ) (peers : List PeerRecord) (penalty : Float) (faults : List ℕ) (rows : ℕ) where
@@ -204,12 +221,20 @@ module _ (n own quorum d : ℕ) (total : TotalShards) (size : ℕ) (peers : List
 
     -- its rows are rows of that width
     pub plan-are-rows : AreRows n (p .width) (p .rows)
-    unfolding loadsFor
     plan-are-rows =
         let r = plan-means p .0 e in
         let loads = loadsFor n own quorum d total faults times (p .time) in
-        let long : length loads ≡ n = trimmed-length (layoutCommits n quorum d total (answered p) faults) (trimOrder n own d times) (loadsAt own d times (p .time) n) ∙ loads-length own d times (p .time) n in
+        let long = loads-for-length n own quorum d total faults times (p .time) in
         rw (r .1 .width, r .1 .rows) (rows-length d total loads ∙ long, rows-below d total loads fit)
+
+    -- our own row is the shards 0 to d - 1
+    pub plan-own : rowIn (p .rows) own ≡ run 0 d
+    plan-own =
+        let r = plan-means p .0 e in
+        let loads = loadsFor n own quorum d total faults times (p .time) in
+        let l = pick-sound n own quorum d total size peers faults rows .0 (r .0) .replica in
+        let k = own-load-for n own quorum d total faults times (p .time) l in
+        rw (r .1 .rows) (rows-full d total loads own (omega (arith, loads-for-length n own quorum d total faults times (p .time))) (omega arith))
 
     -- a quorum of different replicas answers by its time, and without any one listed set there are d different shards, each in the row of one of them outside it
     pub plan-survives : Many quorum (λ s. bit (answered p) s ≡ 1) × Survives n d (answered p) (rowIn (p .rows)) faults
@@ -249,7 +274,25 @@ module _ (n own quorum d : ℕ) (total : TotalShards) (size : ℕ) (peers : List
           plan-survives .1,
         )
 
+-- ---- the lent table at exit: the rows of the plan where there is one, and else what it held
+module _ (o : Outcome (Option Plan)) (before : List ℕ) where
+  pub planned-rows : (p : Plan) → o ≡ accepted (some p) → planned o before ≡ p .rows
+  planned-rows p e = ap (λ (q : Outcome (Option Plan)). planned q before) e
+
+  pub planned-none : o ≡ accepted none → planned o before ≡ before
+  planned-none e = ap (λ (q : Outcome (Option Plan)). planned q before) e
+
+  pub planned-refused : (k : ℕ) → o ≡ refused k → planned o before ≡ before
+  planned-refused k e = ap (λ (q : Outcome (Option Plan)). planned q before) e
+
 -- ---- `full_copies`
+
+-- the width: an exact one as given, and d under a ceiling
+pub copies-exactly : (d w : ℕ) → copiesWidth d (Exactly w) ≡ w
+copies-exactly d w = refl
+
+pub copies-at-most : (d w : ℕ) → copiesWidth d (AtMost w) ≡ d
+copies-at-most d w = refl
 
 -- the answer is w exactly if nothing refuses and w is the width
 pub copies-means : (n d : ℕ) (total : TotalShards) (rows w : ℕ)
@@ -283,3 +326,42 @@ module _ (n d : ℕ) (total : TotalShards) (rows : List ℕ) (e : copiesRefusal 
         length-replicate n (run 0 d),
         all-means (isRow w) 0 (replicate n (run 0 d)) .1 (λ s l. ap (isRow w) (getD-replicate n s (run 0 d) 0 (rw length-replicate at l)) ∙ row),
       )
+
+-- ---- full copies are the layout of n loads of d
+
+nothing-dealt : (n d : ℕ) → partial d (replicate n d) ≡ 0
+nothing-dealt zero d = refl
+nothing-dealt (suc n) d = partial-without d [] (replicate n d) d (le-refl d) ∙ nothing-dealt n d
+
+module _ (n d : ℕ) where
+  pub copies-width : (total : TotalShards) → Fit d (bound total) → copiesWidth d total ≡ widthOf d total (replicate n d)
+  copies-width (Exactly w) h = sym (width-exactly d w (replicate n d))
+  copies-width (AtMost w) h = omega (arith, width-at-most d w (replicate n d), nothing-dealt n d)
+
+  module _ (total : TotalShards) where
+    pub copies-rows : rowsOf d total (replicate n d) ≡ replicate n (run 0 d)
+    copies-rows =
+        let long = length-replicate n d in
+        let m = rows-length d total (replicate n d) in
+        ext-getD 0 (rowsOf d total (replicate n d)) (replicate n (run 0 d)) (m ∙ long ∙ sym (length-replicate n (run 0 d)))
+        (λ s l.
+        let k : s < n = omega arith in
+        rows-full d total (replicate n d) s (omega arith) (omega (arith, getD-replicate n s d 0 k)) ∙ sym (getD-replicate n s (run 0 d) 0 k))
+
+    copies-refused : (rows : ℕ) → copiesRefusal n d total rows ≡ rowsRefusal n d total (length (replicate n d)) rows
+    unfolding copiesRefusal rowsRefusal
+    copies-refused rows = rw (length-replicate n d, eq-eqb n n refl)
+
+    -- the answer
+    pub copies-layout : (rows : ℕ) → fullCopiesOf n d total rows ≡ layoutRowsOf n d total (replicate n d) rows
+    unfolding fullCopiesOf layoutRowsOf
+    copies-layout rows = go (copiesRefusal n d total rows) refl ∙ ap (λ (k : ℕ). outcome k (widthOf d total (replicate n d))) (copies-refused rows)
+      where
+        go : (k : ℕ) → copiesRefusal n d total rows ≡ k → outcome k (copiesWidth d total) ≡ outcome k (widthOf d total (replicate n d))
+        go zero e = ap accepted (copies-width total (copies-sound n d total rows .0 e .shards))
+        go (suc k) e = refl
+
+    -- the lent table at exit
+    pub copies-written : (rows : List ℕ) → copiesWritten n d total rows ≡ rowsWritten n d total (replicate n d) rows
+    unfolding copiesWritten rowsWritten
+    copies-written rows = rw (copies-refused (length rows), copies-rows)

@@ -1,6 +1,6 @@
 -- Plans (`pick_assignment`) and full copies (`full_copies`). Assumes nothing.
 use mathlib.Core.Bool.{cond}
-use mathlib.Core.List.{List, [], _∷_}
+use mathlib.Core.List.{List, [], _∷_, _++_}
 use mathlib.Core.Option.{Option, none, some}
 use Prim.Native.Nat.{ℕ}
 use lib.Dec.{eqb}
@@ -54,17 +54,23 @@ module _ (n own quorum d : ℕ) (total : TotalShards) (faults : List ℕ) (times
 abbrev pub inFlight : List PeerRecord → ℕ → ℕ
 inFlight peers p = getD peers p silent .inflight
 
-abbrev pub pickCases : ℕ → ℕ → ℕ → ℕ → TotalShards → ℕ → List PeerRecord → List ℕ → ℕ → List Case
-pickCases n own quorum d total size peers faults rows =
+-- of the numbers
+abbrev pub pickInputCases : ℕ → ℕ → ℕ → ℕ → TotalShards → ℕ → List PeerRecord → List Case
+pickInputCases n own quorum d total size peers =
     unless (isPopulation n) POPULATION
     ∷ unless (isReplica n own) REPLICA
     ∷ unless (isShards d (bound total)) SHARDS
     ∷ unless (isQuorum n quorum) QUORUM
     ∷ unless (isSize size) BYTES
     ∷ unless (peersFit n own (inFlight peers)) BYTES
-    ∷ unless (isFaultList n faults) TABLE
-    ∷ unless (eqb rows n) TABLE
     ∷ []
+
+-- of the fault list and the lent table of so many rows
+abbrev pub pickTableCases : ℕ → List ℕ → ℕ → List Case
+pickTableCases n faults rows = unless (isFaultList n faults) TABLE ∷ unless (eqb rows n) TABLE ∷ []
+
+abbrev pub pickCases : ℕ → ℕ → ℕ → ℕ → TotalShards → ℕ → List PeerRecord → List ℕ → ℕ → List Case
+pickCases n own quorum d total size peers faults rows = pickInputCases n own quorum d total size peers ++ pickTableCases n faults rows
 
 unfoldable pub pickRefusal : ℕ → ℕ → ℕ → ℕ → TotalShards → ℕ → List PeerRecord → List ℕ → ℕ → ℕ
 pickRefusal n own quorum d total size peers faults rows = firstOf (pickCases n own quorum d total size peers faults rows)

@@ -2,10 +2,12 @@
 use mathlib.Core.Path.{_≡_, refl, sym, ap, _∙_}
 use mathlib.Core.List.{List, []}
 use mathlib.Core.Option.{Option}
-use Prim.Native.Nat.{ℕ}
+use Prim.Native.Nat.{ℕ, zero, suc}
 use lib.Ieee.{Float}
 use lib.ListN.{length}
-use Rattle.refusals.specs.Outcome.{Outcome, refused}
+use Rattle.refusals.specs.First.{firstOf}
+use Rattle.refusals.specs.FirstLaws.{otherwise}
+use Rattle.refusals.specs.Outcome.{Outcome, refused, checked}
 use Rattle.refusals.proofs.Outcomes.{is-checked}
 use Rattle.layout.specs.declared.TotalShards.{TotalShards}
 use Rattle.layout_text.specs.declared.Init.{Init}
@@ -19,7 +21,9 @@ use Rattle.c_types.specs.declared.Answer.{Answer}
 use Rattle.c_types.specs.declared.Plan as C-plan
 use Rattle.c_types.specs.CTypes.{toTotal, toDone, toPlan, unplannedOf}
 use Rattle.c_types.specs.Tables.{fromPeers}
-use Rattle.callboard.specs.Interface.{planTables, pickIn}
+use Rattle.callboard.specs.Interface.{planCases, pickIn}
+use Rattle.callboard.specs.Tests.{planTables}
+use Rattle.callboard.proofs.Numbers.{checked-twice, planned-number}
 
 -- ---- `callboard_parse_init_assignment`: the answer does not hold the rows
 pub is-done : (i : Init) (rows : List ℕ) {r : Answer} {o : Outcome (List ℕ)} → r ≡ toDone (answer i []) → answer i rows ≡ o → r ≡ toDone o
@@ -35,6 +39,10 @@ plan-rows (Refused k) rows = refl
 plan-rows NoPlan rows = refl
 plan-rows (Planned t w) rows = refl
 
+first : (j k : ℕ) → (j ≡ 0 → ⊥) → otherwise j k ≡ j
+first zero k h = absurd (h refl)
+first (suc j) k h = refl
+
 module _ (n own quorum d ceiling width size : ℕ) (penalty : Float) (heard : ℕ) (models : List Float) (inflight faults : List ℕ) (rows : List ℕ)
     {total : TotalShards} {peers : List PeerRecord} {typed got : ℕ}
     (t : total ≡ toTotal ceiling width) (p : peers ≡ fromPeers heard models inflight)
@@ -42,17 +50,24 @@ module _ (n own quorum d ceiling width size : ℕ) (penalty : Float) (heard : �
   abbrev plan : Outcome (Option Plan)
   plan = pickIn n own quorum d (toTotal ceiling width) size penalty heard models inflight faults (length rows)
 
-  abbrev number : ℕ
-  number = planTables (pickRefusal n own quorum d (toTotal ceiling width) size (fromPeers heard models inflight) faults (length rows)) n heard (length models) (length inflight)
+  -- the number of the entry, and that of all cases
+  abbrev asked : ℕ
+  asked = pickRefusal n own quorum d (toTotal ceiling width) size (fromPeers heard models inflight) faults (length rows)
 
-  refusing : got ≡ number
-  refusing = e ∙ rw (k, p, t)
+  abbrev number : ℕ
+  number = firstOf (planCases n own quorum d (toTotal ceiling width) size heard models inflight faults (length rows))
+
+  refusing : otherwise got asked ≡ number
+  refusing =
+      let f : got ≡ planTables asked n heard (length models) (length inflight) = e ∙ rw (k, p, t) in
+      ap (λ (j : ℕ). otherwise j asked) f
+      ∙ planned-number n own quorum d (toTotal ceiling width) size penalty heard models inflight faults (length rows)
 
   -- refused: the answer is the number alone, and the rows are as they were
   pub refused-plan : {r : C-plan.Plan} → (got ≡ 0 → ⊥) → r ≡ unplannedOf got → (r ≡ toPlan plan) × (rows ≡ planned plan rows)
   unfolding pickIn
   refused-plan h q =
-      let s : refused got ≡ plan = is-checked number got _ refusing h in
+      let s : refused got ≡ plan = is-checked number got _ (sym (first got asked h) ∙ refusing) h in
       (q ∙ ap toPlan s, ap (λ (o : Outcome (Option Plan)). planned o rows) s)
 
   -- else both are the entry's
@@ -61,8 +76,10 @@ module _ (n own quorum d ceiling width size : ℕ) (penalty : Float) (heard : �
     entry = pickOf n own quorum d total size peers penalty faults (length rows)
 
     unrefused : entry ≡ plan
-    unfolding pickIn
-    unrefused = rw (sym refusing ∙ z, p, t)
+    unfolding pickIn pickOf
+    unrefused =
+        let f : asked ≡ number = sym (ap (λ (j : ℕ). otherwise j asked) z) ∙ refusing in
+        rw (p, t, ← f) (sym (checked-twice asked _))
 
     pub picked-plan : {r : C-plan.Plan} {after : List ℕ} (p : Pick) → r ≡ toPlan (picked p []) → picked p after ≡ entry → after ≡ planned entry rows
         → (r ≡ toPlan plan) × (after ≡ planned plan rows)

@@ -16,7 +16,9 @@ use Rattle.adaptive.specs.PolicyLaws.{choice-means, initial-means, rows-fit}
 use Rattle.adaptive.proofs.Entries.{policy-holds}
 use Rattle.c_types.specs.CTypes.{isSet}
 use Rattle.c_types.specs.Tables.{isRecords, fromModels, fromInFlight}
-use Rattle.callboard.specs.Interface.{policyTables, fittingOf, policyIn, copied, rowsLeft}
+use Rattle.callboard.specs.Interface.{policyIn, copied, rowsLeft}
+use Rattle.callboard.specs.Tests.{policyTables, fittingOf}
+use Rattle.callboard.proofs.Numbers.{policy-in-is}
 
 none-copied : (rows : List ℕ) → copied [] rows ≡ rows
 none-copied [] = refl
@@ -36,10 +38,12 @@ module _ (n f own d w majority size adaptive balanced : ℕ) (models : List Floa
   abbrev unfit : Outcome (Option ℕ) → Outcome (Option ℕ)
   unfit o = andThen o (λ _. refused TABLE)
 
+  in-is : (rows : ℕ) → policyIn n f own d w majority size adaptive balanced models inflight alive initial table rows ≡ fittingOf (fits rows) policy
+  in-is rows = policy-in-is n f own d w majority size adaptive balanced models inflight alive initial table rows
+
   pub held : (rows : ℕ) {o : Outcome (Option ℕ)} → o ≡ policyIn n f own d w majority size adaptive balanced models inflight alive initial table rows
       → Holds n d majority o (length table)
-  unfolding policyIn
-  held rows {o} e = go (fits rows) e
+  held rows {o} e = go (fits rows) (e ∙ in-is rows)
     where
       unheld : (p : Outcome (Option ℕ)) → Holds n d majority (unfit p) (length table)
       unheld (refused k) = tt
@@ -62,9 +66,9 @@ module _ (n f own d w majority size adaptive balanced : ℕ) (models : List Floa
   pub rows-left : (rows : List ℕ) {after part : List ℕ} {o : Outcome (Option ℕ)} → o ≡ policyIn n f own d w majority size adaptive balanced models inflight alive initial table (length rows)
       → part ≡ rowsOf n d majority o initial table → after ≡ copied part rows
       → after ≡ rowsLeft n d majority (policyIn n f own d w majority size adaptive balanced models inflight alive initial table (length rows)) initial table rows
-  unfolding policyIn
   rows-left rows {o} e t q =
-      q ∙ ap (λ (part : List ℕ). copied part rows) t ∙ ap (λ (p : Outcome (Option ℕ)). copied (rowsOf n d majority p initial table) rows) e ∙ go (fits (length rows)) refl
+      q ∙ ap (λ (part : List ℕ). copied part rows) t ∙ ap (λ (p : Outcome (Option ℕ)). copied (rowsOf n d majority p initial table) rows) e
+      ∙ rw (in-is (length rows)) (go (fits (length rows)) refl)
     where
       unwritten : (p : Outcome (Option ℕ)) → copied (rowsOf n d majority (unfit p) initial table) rows ≡ rowsLeft n d majority (unfit p) initial table rows
       unwritten (refused k) = none-copied rows

@@ -1,59 +1,53 @@
 -- The C interface of plans and of the policy: the entry over the tables lent by replica, whose lengths it tests. Assumes nothing.
-use mathlib.Core.Bool.{Bool, true, false, cond, _&&_, _||_}
-use mathlib.Core.List.{List, [], _∷_}
+use mathlib.Core.Bool.{cond}
+use mathlib.Core.List.{List, [], _∷_, _++_}
 use mathlib.Core.Option.{Option}
 use Prim.Native.Nat.{ℕ}
-use lib.Dec.{eqb, leb}
+use lib.Dec.{eqb}
 use lib.Ieee.{Float}
 use lib.ListN.{length}
 use Rattle.refusals.specs.Numbers.{MASK, TABLE}
 use Rattle.refusals.specs.First.{Case, unless, firstOf}
-use Rattle.refusals.specs.Outcome.{Outcome, refused, accepted, checked, andThen}
+use Rattle.refusals.specs.Outcome.{Outcome, refused, accepted, checked}
 use Rattle.refusals.specs.Limits.{isMask}
 use Rattle.layout.specs.declared.TotalShards.{TotalShards}
-use Rattle.assignment.specs.Plans.{Plan, pickRefusal, pickOf}
-use Rattle.adaptive.specs.Policy.{policyOf, rowsOf}
+use Rattle.assignment.specs.Plans.{Plan, pickInputCases, pickTableCases, pickOf}
+use Rattle.adaptive.specs.Policy.{policyCases, policyOf, rowsOf}
 use Rattle.c_types.specs.CTypes.{isSet}
 use Rattle.c_types.specs.Tables.{isRecords, fromPeers, fromModels, fromInFlight}
 
 -- ---- plans
 
--- of the number that refuses the entry, or 0: no case of the entry stands before the mask of the peers heard
-abbrev pub isPast : ℕ → Bool
-isPast typed = eqb typed 0 || leb MASK typed
+-- the mask of the peers heard, and four floats and a word for each of n replicas, of so many lent
+abbrev pub heardCases : ℕ → ℕ → ℕ → ℕ → List Case
+heardCases n heard models inflight = unless (isMask n heard) MASK ∷ unless (isRecords models 4 n) TABLE ∷ unless (eqb inflight n) TABLE ∷ []
 
-abbrev pub planCases : ℕ → ℕ → ℕ → ℕ → ℕ → List Case
-planCases typed n heard models inflight =
-    unless (isPast typed) typed
-    ∷ unless (isMask n heard) MASK
-    ∷ unless (isRecords models 4 n) TABLE
-    ∷ unless (eqb inflight n) TABLE
-    ∷ []
-
-unfoldable pub planTables : ℕ → ℕ → ℕ → ℕ → ℕ → ℕ
-planTables typed n heard models inflight = firstOf (planCases typed n heard models inflight)
+-- after the entry's cases of the numbers, and before those of its tables
+abbrev pub planCases : ℕ → ℕ → ℕ → ℕ → TotalShards → ℕ → ℕ → List Float → List ℕ → List ℕ → ℕ → List Case
+planCases n own quorum d total size heard models inflight faults rows =
+    pickInputCases n own quorum d total size (fromPeers heard models inflight)
+    ++ (heardCases n heard (length models) (length inflight) ++ pickTableCases n faults rows)
 
 unfoldable pub pickIn : ℕ → ℕ → ℕ → ℕ → TotalShards → ℕ → Float → ℕ → List Float → List ℕ → List ℕ → ℕ → Outcome (Option Plan)
 pickIn n own quorum d total size penalty heard models inflight faults rows =
-    checked
-    (planTables (pickRefusal n own quorum d total size (fromPeers heard models inflight) faults rows) n heard (length models) (length inflight))
+    checked (firstOf (planCases n own quorum d total size heard models inflight faults rows))
     (pickOf n own quorum d total size (fromPeers heard models inflight) penalty faults rows)
 
 -- ---- the policy
 
 -- three floats and a word for each of n replicas, and n rows
-abbrev pub policyTables : ℕ → ℕ → ℕ → ℕ → Bool
-policyTables n models inflight rows = isRecords models 3 n && (eqb inflight n && eqb rows n)
+abbrev pub lentCases : ℕ → ℕ → ℕ → ℕ → List Case
+lentCases n models inflight rows = unless (isRecords models 3 n) TABLE ∷ unless (eqb inflight n) TABLE ∷ unless (eqb rows n) TABLE ∷ []
 
--- the choice if the tables fit, and else the number that refuses it, or that of the tables
-abbrev pub fittingOf : Bool → Outcome (Option ℕ) → Outcome (Option ℕ)
-fittingOf true o = o
-fittingOf false o = andThen o (λ _. refused TABLE)
+-- after the entry's cases
+abbrev pub choiceCases : ℕ → ℕ → ℕ → ℕ → ℕ → ℕ → ℕ → List Float → List ℕ → ℕ → List ℕ → List ℕ → ℕ → List Case
+choiceCases n f own d w majority size models inflight alive initial table rows =
+    policyCases n f own d w majority size (fromInFlight inflight) alive initial table ++ lentCases n (length models) (length inflight) rows
 
 -- of that many rows lent
 unfoldable pub policyIn : ℕ → ℕ → ℕ → ℕ → ℕ → ℕ → ℕ → ℕ → ℕ → List Float → List ℕ → ℕ → List ℕ → List ℕ → ℕ → Outcome (Option ℕ)
 policyIn n f own d w majority size adaptive balanced models inflight alive initial table rows =
-    fittingOf (policyTables n (length models) (length inflight) rows)
+    checked (firstOf (choiceCases n f own d w majority size models inflight alive initial table rows))
     (policyOf n f own d w majority size (fromInFlight inflight) (fromModels models) alive initial table (isSet adaptive) (isSet balanced))
 
 -- a part, copied where it has as many words as the table

@@ -6,13 +6,13 @@ use mathlib.Core.Bool.{Bool, true, false, cond}
 use mathlib.Core.List.{List, [], _∷_, _++_}
 use Prim.Native.Nat.{ℕ, suc, _+_, _*_, _%_, _^_, _≤_, _<_, min, max}
 use native.Mathlib.Nat.{le-refl, mod-eq-of-lt}
-use native.Mathlib.Decide.{le-ind}
+use native.Mathlib.Decide.{decLt, le-ind}
 use native.Mathlib.Omega.{arith}
 use lib.Dec.{ltb}
-use lib.ListN.{length, getD, take}
+use lib.ListN.{length, getD, take, length-append, List·getD-append}
 use lib.Pow.{pow-mono, ones-lt}
-use lib.Seq.{take-suc, take-length}
-use borrow.Author.Tests.{ltb-true, ltb-false, lt-ltb}
+use lib.Seq.{take-suc, take-length, take-append-le, take-append-add, getD-append-add}
+use borrow.Author.Tests.{ltb-true, ltb-false, lt-ltb, le-ltb, eq-eqb, ne-eqb}
 use Rattle.lists.specs.All.{all}
 use Rattle.lists.specs.BelowLaws.{each-below-length, each-below-at, each-below-all}
 use Rattle.bitmap.specs.Mask.{bit, count, run, runModulo, rowIn}
@@ -26,16 +26,23 @@ use Rattle.refusals.specs.Limits.{isRow}
 use Rattle.coverage.specs.CoverageLaws.{Survives, commits-means}
 use Rattle.layout.specs.declared.TotalShards.{TotalShards}
 use Rattle.layout.specs.declared.TotalShards.the-variants.{Exactly, AtMost}
-use Rattle.layout.specs.Layout.{Fit, bound, dealt, partial, widthOf, rowFor, rowAt, rowsOf, layoutCommits, heardLoad, heardLoads, rowsRefusal, layoutRowsOf, commitsRefusal, layoutCommitsOf}
+use Rattle.layout.specs.Layout.{Fit, bound, dealt, partial, widthFor, widthOf, rowFor, rowAt, rowsOf, layoutCommits, heardLoad, heardLoads, rowsRefusal, layoutRowsOf, rowsWritten, commitsRefusal, layoutCommitsOf, trialWritten}
 
 -- ---- what is dealt
 
+-- all of a load below d, and nothing of a full one
+dealt-below : (d k : ℕ) → k < d → dealt d k ≡ k
+dealt-below d k h = rw (lt-ltb k d h)
+
+dealt-full : (d k : ℕ) → d ≤ k → dealt d k ≡ 0
+dealt-full d k h = rw (le-ltb k d h)
+
 dealt-le : (d k : ℕ) → dealt d k ≤ d
-dealt-le d k = go (ltb k d) refl
+dealt-le d k = go (decLt k d)
   where
-    go : (b : Bool) → ltb k d ≡ b → cond b k 0 ≤ d
-    go true q = omega (arith, ltb-true k d q)
-    go false q = omega arith
+    go : Dec (k < d) → dealt d k ≤ d
+    go (yes h) = omega (arith, dealt-below d k h)
+    go (no h) = omega (arith, dealt-full d k (omega arith))
 
 -- with one load more
 pub partial-more : (d : ℕ) (ks : List ℕ) (k : ℕ) → partial d (ks ++ (k ∷ [])) ≡ partial d ks + dealt d k
@@ -54,6 +61,24 @@ partial-mono d loads i j h =
 pub partial-le : (d b : ℕ) (ks : List ℕ) → d ≤ b → partial d ks ≤ b * length ks
 partial-le d b [] h = omega arith
 partial-le d b (k ∷ ks) h = omega (arith, partial-le d b ks h, dealt-le d k)
+
+-- a full load does not move the offset
+pub partial-full : (d : ℕ) (ks : List ℕ) (k : ℕ) → d ≤ k → partial d (ks ++ (k ∷ [])) ≡ partial d ks
+partial-full d ks k h = omega (arith, partial-more d ks k, dealt-full d k h)
+
+module _ (d : ℕ) (loads : List ℕ) (s : ℕ) (known : s < length loads) where
+  -- after a replica with a full load the offset is what it was
+  pub offset-full : d ≤ getD loads s 0 → partial d (take (suc s) loads) ≡ partial d (take s loads)
+  offset-full h = omega (arith, partial-upto d loads s known, dealt-full d (getD loads s 0) h)
+
+  -- and after one with a load below d it is that load further on
+  pub offset-below : getD loads s 0 < d → partial d (take (suc s) loads) ≡ partial d (take s loads) + getD loads s 0
+  offset-below h = omega (arith, partial-upto d loads s known, dealt-below d (getD loads s 0) h)
+
+-- so a full load may be left out
+pub partial-without : (d : ℕ) (us vs : List ℕ) (k : ℕ) → d ≤ k → partial d (us ++ (k ∷ vs)) ≡ partial d (us ++ vs)
+partial-without d [] vs k h = omega (arith, dealt-full d k h)
+partial-without d (u ∷ us) vs k h = ap (λ (m : ℕ). dealt d u + m) (partial-without d us vs k h)
 
 -- ---- the width
 
@@ -85,6 +110,12 @@ module _ (d : ℕ) (total : TotalShards) (loads : List ℕ) where
       go (AtMost w) l = omega (arith, width-at-most d w loads)
 
 -- ---- a row
+
+-- that of a full load is the shards 0 to d - 1
+row-full : (d w offset k : ℕ) → d ≤ k → rowFor d w offset k ≡ run 0 d
+unfolding rowFor
+row-full d w offset k h = rw (le-ltb k d h)
+
 module _ (d w offset k : ℕ) (h : Fit d w) where
   -- of shards below the width
   row-below : isRow w (rowFor d w offset k) ≡ true
@@ -115,6 +146,10 @@ module _ (d : ℕ) (total : TotalShards) (loads : List ℕ) where
   unfolding rowsOf
   row-at s l = each-below-at (rowAt d (widthOf d total loads) loads) (length loads) s 0 l
 
+  -- that of a full load is the shards 0 to d - 1
+  pub rows-full : (s : ℕ) → s < length loads → d ≤ getD loads s 0 → rowIn (rowsOf d total loads) s ≡ run 0 d
+  rows-full s l h = row-at s l ∙ row-full d (widthOf d total loads) (partial d (take s loads)) (getD loads s 0) h
+
   module _ (h : Fit d (bound total)) where
     -- of shards below the width: with `rows-length`, they pass the checks of `covers` for 16 and 17
     pub rows-below : all (isRow (widthOf d total loads)) (rowsOf d total loads) ≡ true
@@ -128,6 +163,40 @@ module _ (d : ℕ) (total : TotalShards) (loads : List ℕ) where
     pub rows-count : (s : ℕ) → s < length loads → count (rowIn (rowsOf d total loads) s) ≡ min (getD loads s 0) d
     rows-count s l =
         ap count (row-at s l) ∙ row-count d (widthOf d total loads) (partial d (take s loads)) (getD loads s 0) (width-fits d total loads h)
+
+-- ---- without a replica that has a full load the width and the rows of all others are the same
+module _ (d : ℕ) (total : TotalShards) (us vs : List ℕ) (k : ℕ) (full : d ≤ k) where
+  pub width-without : widthOf d total (us ++ (k ∷ vs)) ≡ widthOf d total (us ++ vs)
+  unfolding widthOf
+  width-without = ap (widthFor d total) (partial-without d us vs k full)
+
+  -- the rows of those before it
+  pub rows-before : (s : ℕ) → s < length us → rowIn (rowsOf d total (us ++ (k ∷ vs))) s ≡ rowIn (rowsOf d total (us ++ vs)) s
+  rows-before s l =
+      let h : s ≤ length us = omega arith in
+      rw (
+        row-at d total (us ++ (k ∷ vs)) s (omega (arith, length-append us (k ∷ vs))),
+        row-at d total (us ++ vs) s (omega (arith, length-append us vs)),
+        width-without,
+        take-append-le s us (k ∷ vs) h,
+        take-append-le s us vs h,
+        List·getD-append us (k ∷ vs) 0 s l,
+        List·getD-append us vs 0 s l,
+      )
+
+  -- and of those after it
+  pub rows-after : (i : ℕ) → i < length vs → rowIn (rowsOf d total (us ++ (k ∷ vs))) (length us + suc i) ≡ rowIn (rowsOf d total (us ++ vs)) (length us + i)
+  rows-after i l =
+      rw (
+        row-at d total (us ++ (k ∷ vs)) (length us + suc i) (omega (arith, length-append us (k ∷ vs))),
+        row-at d total (us ++ vs) (length us + i) (omega (arith, length-append us vs)),
+        width-without,
+        take-append-add us (k ∷ vs) (suc i),
+        take-append-add us vs i,
+        getD-append-add us (k ∷ vs) (suc i) 0,
+        getD-append-add us vs i 0,
+        partial-without d us (take i vs) k full,
+      )
 
 -- ---- shards that are dealt: where they fit the width, no two rows of loads below d share one
 
@@ -149,8 +218,8 @@ rows-apart d total loads fits i j s h l p q e f =
     let b = partial-upto d loads j l in
     let x = partial-mono d loads (suc i) j h (omega arith) in
     let y = partial-mono d loads (suc j) (length loads) l (le-refl (length loads)) in
-    let k = ap (λ (t : Bool). cond t (getD loads i 0) 0) (lt-ltb (getD loads i 0) d p) in
-    let m = ap (λ (t : Bool). cond t (getD loads j 0) 0) (lt-ltb (getD loads j 0) d q) in
+    let k = dealt-below d (getD loads i 0) p in
+    let m = dealt-below d (getD loads j 0) q in
     let u = dealt-from d w (partial d (take i loads)) (getD loads i 0) s p (omega arith) (ap (λ (r : ℕ). bit r s) (sym (row-at d total loads i (omega arith))) ∙ e) in
     let v = dealt-from d w (partial d (take j loads)) (getD loads j 0) s q (omega arith) (ap (λ (r : ℕ). bit r s) (sym (row-at d total loads j l)) ∙ f) in
     omega arith
@@ -165,6 +234,14 @@ module _ (answered : ℕ) (loads : List ℕ) where
   unfolding heardLoads
   heard-at s l = each-below-at (heardLoad answered loads) (length loads) s 0 l
 
+  -- that of one that answers is as given, and that of one that does not is 0
+  module _ (s : ℕ) (known : s < length loads) where
+    pub heard-given : bit answered s ≡ 1 → getD (heardLoads answered loads) s 0 ≡ getD loads s 0
+    heard-given e = heard-at s known ∙ rw (eq-eqb (bit answered s) 1 e)
+
+    pub heard-silent : bit answered s ≡ 0 → getD (heardLoads answered loads) s 0 ≡ 0
+    heard-silent e = heard-at s known ∙ rw (ne-eqb (bit answered s) 1 (omega arith))
+
 -- ---- the entries
 
 -- `layout_rows` answers w exactly if nothing refuses, and w is the width
@@ -172,6 +249,12 @@ pub layout-rows-means : (n d : ℕ) (total : TotalShards) (loads : List ℕ) (ro
     → (layoutRowsOf n d total loads rows ≡ accepted w) ↔ ((rowsRefusal n d total (length loads) rows ≡ 0) × (widthOf d total loads ≡ w))
 unfolding layoutRowsOf
 layout-rows-means n d total loads rows w = accepted-means (rowsRefusal n d total (length loads) rows) (widthOf d total loads) w
+
+-- and its table then holds the rows
+pub rows-written : (n d : ℕ) (total : TotalShards) (loads rows : List ℕ) → rowsRefusal n d total (length loads) (length rows) ≡ 0
+    → rowsWritten n d total loads rows ≡ rowsOf d total loads
+unfolding rowsWritten
+rows-written n d total loads rows e = rw e
 
 -- `layout_commits` answers w and yes exactly if nothing refuses, w is the width, a quorum of different replicas answer, and without any one listed set there
 -- are d different shards, each in the row of one that answers outside it
@@ -190,3 +273,10 @@ layout-commits-means n quorum d total answered loads faults rows w =
       λ e. let q = c .0 (ap (λ (p : ℕ × Bool). p .1) (m .0 e .1)) in (m .0 e .0, ap (λ (p : ℕ × Bool). p .0) (m .0 e .1), q .0, q .1),
       λ h. m .1 (h .0, ap₂ (λ (x : ℕ) (y : Bool). (x, y)) (h .1) (c .1 (h .2, h .3))),
     )
+
+-- its table holds the rows of those that answer, also where it does not commit
+pub trial-written : (n quorum d : ℕ) (total : TotalShards) (answered : ℕ) (loads faults rows : List ℕ)
+    → commitsRefusal n quorum d total answered (length loads) faults (length rows) ≡ 0
+    → trialWritten n quorum d total answered loads faults rows ≡ rowsOf d total (heardLoads answered loads)
+unfolding trialWritten
+trial-written n quorum d total answered loads faults rows e = rw e

@@ -1,12 +1,13 @@
--- What trimming comes to: loads from which a pass keeps nothing. Assumes nothing.
+-- What trimming comes to: loads from which a pass keeps nothing, and no other load than those that it tries changes. Assumes nothing.
 use mathlib.Core.Path.{_≡_, refl, sym, ap, _∙_}
 use mathlib.Core.Bool.{Bool, true, false, cond, _||_, and-eq-true-iff, true≢false}
-use mathlib.Core.List.{List, [], _∷_}
+use mathlib.Core.List.{List, [], _∷_, List·Memᴰ, List·Memᴰ·head, List·Memᴰ·tail}
 use Prim.Native.Nat.{ℕ, zero, suc, _-_, _≤_, _<_}
 use native.Mathlib.Nat.{le-refl}
 use native.Mathlib.Omega.{arith}
 use lib.Dec.{ltb}
 use lib.ListN.{length, getD, set, length-set}
+use lib.Seq.{getD-set-other}
 use borrow.Author.Tests.{ltb-true}
 use Rattle.trimming.specs.Trimming.{lowered, keeps, tried, passed, keepsAny, trimmedIn, shardsIn, trimmed}
 
@@ -107,3 +108,33 @@ module _ (commits : List ℕ → Bool) where
   pub trimmed-length : (order loads : List ℕ) → length (trimmed commits order loads) ≡ length loads
   unfolding trimmed
   trimmed-length order loads = trimmed-in-length (suc (shardsIn loads)) order loads
+
+  -- ---- the load of q, which the order does not list, is left as it is
+  module _ (q : ℕ) where
+    tried-other : (loads : List ℕ) (p : ℕ) → (q ≡ p → ⊥) → getD (tried commits loads p) q 0 ≡ getD loads q 0
+    unfolding tried
+    tried-other loads p h = go (keeps commits loads p)
+      where
+        go : (b : Bool) → getD (cond b (lowered commits loads p) loads) q 0 ≡ getD loads q 0
+        go true = getD-set-other loads p q (getD loads p 0 - 1) 0 h
+        go false = refl
+
+    passed-other : (order loads : List ℕ) → (List·Memᴰ q order → ⊥) → getD (passed commits order loads) q 0 ≡ getD loads q 0
+    passed-other [] loads h = refl
+    passed-other (p ∷ ps) loads h =
+        passed-other ps (tried commits loads p) (λ m. h (List·Memᴰ·tail m)) ∙ tried-other loads p (λ e. h (List·Memᴰ·head e))
+
+    module _ (order : List ℕ) (unlisted : List·Memᴰ q order → ⊥) where
+      trimmed-in-other : (m : ℕ) (loads : List ℕ) → getD (trimmedIn commits m order loads) q 0 ≡ getD loads q 0
+      unfolding trimmedIn
+      trimmed-in-other zero loads = refl
+      trimmed-in-other (suc m) loads = go (keepsAny commits order loads) (trimmed-in-other m (passed commits order loads))
+        where
+          go : (b : Bool) → getD (trimmedIn commits m order (passed commits order loads)) q 0 ≡ getD (passed commits order loads) q 0
+              → getD (cond b (trimmedIn commits m order (passed commits order loads)) loads) q 0 ≡ getD loads q 0
+          go true ih = ih ∙ passed-other order loads unlisted
+          go false ih = refl
+
+      pub trimmed-other : (loads : List ℕ) → getD (trimmed commits order loads) q 0 ≡ getD loads q 0
+      unfolding trimmed
+      trimmed-other loads = trimmed-in-other (suc (shardsIn loads)) loads

@@ -1,7 +1,7 @@
 -- `callboard::plan_tables` meets its contract. Assumes nothing.
 use borrow.Author.Needs.{needs}
 use Rattle.refusals.proofs.Checks.{checks}
-use Rattle.callboard.specs.Interface.{planTables}
+use Rattle.callboard.specs.Tests.{planTables}
 use Rattle.callboard.proofs.plan_tables.Statement.{statement}
 use Rattle.callboard.proofs.plan_tables.Tie as tie
 

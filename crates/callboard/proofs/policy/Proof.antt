@@ -1,11 +1,10 @@
 -- `callboard::policy` meets its contract. Assumes nothing.
 use borrow.Author.Needs.{needs}
-use Rattle.callboard.specs.Interface.{policyIn}
+use Rattle.callboard.proofs.Numbers.{policy-in-is}
 use Rattle.callboard.proofs.policy.Statement.{statement}
 use Rattle.callboard.proofs.policy.Tie as tie
 
 pub policy-spec : {M : Type 1} → statement M
-unfolding policyIn
 policy-spec =
     tie.close
     (tie.spec
@@ -22,4 +21,4 @@ policy-spec =
     let u = t .before in
     let m = u .before in
     let i = m .before in
-    rw (c .fitting .ensures, a .pick-assignment-policy .ensures, t .is-set2 .ensures, u .is-set .ensures, m .from-models .ensures, i .from-in-flight .ensures, i .before .policy-tables .ensures)))
+    rw (policy-in-is, c .fitting .ensures, a .pick-assignment-policy .ensures, t .is-set2 .ensures, u .is-set .ensures, m .from-models .ensures, i .from-in-flight .ensures, i .before .policy-tables .ensures)))
