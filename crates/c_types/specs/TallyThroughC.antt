@@ -1,11 +1,11 @@
--- Demand 3 (quoted in crates/tally/specs/Demand.antt) for a caller in C, in the words that C sees: the structs that `callboard_tally_open` and
--- `callboard_accept_reply` return, and the tally that the latter leaves in the caller's memory.
+-- Demand 3 (quoted in crates/tally/specs/Demand.antt) for a caller in C, in the words that C sees: the structs that `callboard_tally_open`
+-- and `callboard_accept_reply` return, and the tally that the latter leaves in the caller's memory.
 --
--- Of these two functions the laws below hold because their contracts equate: the first returns toOpening (openingOf n quorum d w ballot high low), the
--- second returns answerThrough t r and leaves leftThrough t r, where t is the tally before the call and r the reply with the fault list. A reply is
--- refused if `refusal` is not 0; otherwise it is answered committed if `status` is not 0. The premises are those of the demand: the opening was not
--- refused, every unrefused reply was lent the same fault list, each call is handed the tally as the one before it left it, and nothing else writes it.
--- Assumes nothing.
+-- The laws below hold of these two functions because their contracts equate: the first returns toOpening (openingOf n quorum d w ballot high
+-- low); the second returns answerThrough t r and leaves leftThrough t r, where t is the tally before the call and r is the reply with its
+-- fault list. A reply is refused if `refusal` is not 0; otherwise it is answered committed if `status` is not 0. The premises are those of
+-- the demand: the opening was not refused, every unrefused reply was lent the same fault list, each call is handed the tally as the one
+-- before it left it, and nothing else writes it. Assumes nothing.
 use mathlib.Core.Path.{_≡_, refl, sym, ap, subst, _∙_}
 use mathlib.Core.Logic.{_↔_}
 use mathlib.Core.Bool.{Bool, true, false, cond, true≢false}
@@ -131,47 +131,41 @@ same-through (r ∷ rs) t =
 
 -- ---- demand 3
 module _ (n quorum d w ballot high low : ℕ) where
+  abbrev opening : Opening
+  opening = openingOf n quorum d w ballot high low
+
   -- what `callboard_tally_open` returns
   abbrev opened : TallyOpening
-  opened = toOpening (openingOf n quorum d w ballot high low)
+  opened = toOpening opening
 
-  -- what the entry's opened tally takes of a list
-  abbrev direct : List Reply → List Taken
-  direct rs = taken (openingOf n quorum d w ballot high low .tally) rs
+  -- the replies of a list that C did not refuse, from that tally on
+  abbrev ran : List Reply → List Taken
+  ran rs = takenThrough (opened .tally) rs
 
-  -- an opened tally takes through C what the entry's takes
-  pub through : (rs : List Reply) → takenThrough (opened .tally) rs ≡ direct rs
-  through rs = same-through rs (opened .tally) ∙ ap (λ (u : Tally). taken u rs) (read-opening (openingOf n quorum d w ballot high low))
+  -- they are what the entry's tally takes, with what it answers
+  pub through : (rs : List Reply) → ran rs ≡ taken (opening .tally) rs
+  through rs = same-through rs (opened .tally) ∙ ap (λ (u : Tally). taken u rs) (read-opening opening)
 
-  -- the replies that C does not refuse are those that the opened tally does not: what was heard since decides nothing
-  pub same-taken-through : (rs : List Reply) → replies (takenThrough (opened .tally) rs) ≡ unrefused (openingOf n quorum d w ballot high low .tally) rs
+  -- C refuses a reply, or not, as the opened tally would: what was heard since decides nothing
+  pub same-taken-through : (rs : List Reply) → replies (ran rs) ≡ unrefused (opening .tally) rs
   same-taken-through rs = ap replies (through rs) ∙ same-taken n quorum d w ballot high low rs
 
   -- once committed is said, every later unrefused reply is answered so too
-  pub stays-through : (rs : List Reply) → Stays (takenThrough (opened .tally) rs)
+  pub stays-through : (rs : List Reply) → Stays (ran rs)
   stays-through rs = subst Stays (sym (through rs)) (stays n quorum d w ballot high low rs)
 
   module _ (no : opened .refusal ≡ 0) (faults : List ℕ) where
-    -- of what a list takes, as of its unrefused replies
-    exactly-direct : (rs : List Reply) → Lent faults (replies (direct rs)) → (lastSaid (direct rs) ≡ true) ↔ Commits quorum d faults (replies (direct rs))
+    -- the last unrefused reply was answered committed exactly when the unrefused ones commit; where there is none, neither side holds
+    pub exactly-through : (rs : List Reply) → Lent faults (replies (ran rs)) → (lastSaid (ran rs) ≡ true) ↔ Commits quorum d faults (replies (ran rs))
     unfolding toOpening openingOf
-    exactly-direct rs =
-        subst (λ (us : List Reply). Lent faults us → (lastSaid (direct rs) ≡ true) ↔ Commits quorum d faults us)
-        (sym (same-taken n quorum d w ballot high low rs)) (exactly n quorum d w ballot high low no faults rs)
-
-    -- the last unrefused reply was answered committed exactly when the unrefused ones commit. Where there is none, neither side holds
-    pub exactly-through : (rs : List Reply) → Lent faults (replies (takenThrough (opened .tally) rs))
-        → (lastSaid (takenThrough (opened .tally) rs) ≡ true) ↔ Commits quorum d faults (replies (takenThrough (opened .tally) rs))
     exactly-through rs =
-        subst (λ (us : List Taken). Lent faults (replies us) → (lastSaid us ≡ true) ↔ Commits quorum d faults (replies us)) (sym (through rs))
-        (exactly-direct rs)
+        subst (λ (us : List Reply). Lent faults us → (lastSaid (ran rs) ≡ true) ↔ Commits quorum d faults us) (sym (same-taken-through rs))
+        (subst (λ (us : List Taken). Lent faults (unrefused (opening .tally) rs) → (lastSaid us ≡ true) ↔ Commits quorum d faults (unrefused (opening .tally) rs))
+        (sym (through rs)) (exactly n quorum d w ballot high low no faults rs))
 
     -- order and repetition of the unrefused replies decide nothing
-    pub agree-through : (rs rs′ : List Reply) → Lent faults (replies (takenThrough (opened .tally) rs))
-        → Lent faults (replies (takenThrough (opened .tally) rs′))
-        → Included (replies (takenThrough (opened .tally) rs)) (replies (takenThrough (opened .tally) rs′))
-        → Included (replies (takenThrough (opened .tally) rs′)) (replies (takenThrough (opened .tally) rs))
-        → lastSaid (takenThrough (opened .tally) rs) ≡ lastSaid (takenThrough (opened .tally) rs′)
+    pub agree-through : (rs rs′ : List Reply) → Lent faults (replies (ran rs)) → Lent faults (replies (ran rs′))
+        → Included (replies (ran rs)) (replies (ran rs′)) → Included (replies (ran rs′)) (replies (ran rs)) → lastSaid (ran rs) ≡ lastSaid (ran rs′)
     agree-through rs rs′ l l′ i j =
         both-ways (λ e. exactly-through rs′ l′ .1 (commits-grow i (exactly-through rs l .0 e)))
         (λ e. exactly-through rs l .1 (commits-grow j (exactly-through rs′ l′ .0 e)))
