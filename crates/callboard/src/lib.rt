@@ -454,7 +454,7 @@ pub extern "C" fn callboard_tally_open(
     c_types::opening(tally::open(n, quorum, d, w, ballot, high, low))
 }
 
-// Counts a reply on a lent tally; a refusal leaves it as it was.
+// Counts a reply on a lent tally. A refused one leaves it as it was: nothing is stored.
 #[no_mangle]
 pub extern "C" fn callboard_accept_reply(
     t: &mut Tally,
@@ -469,7 +469,9 @@ pub extern "C" fn callboard_accept_reply(
         × (now (t .exit) ≡ tallyLeft (now (t .entry)) (tallyAfter (fromTally (now (t .entry))) (told source ballot high low row (now (faults .entry))))) ⌝ }
 {
     let r = counted(*t, source, ballot, high, low, row, faults);
-    *t = r.tally;
+    if r.reply.refusal == 0 {
+        *t = r.tally;
+    }
     r.reply
 }
 

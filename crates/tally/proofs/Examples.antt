@@ -47,10 +47,11 @@ run =
     -- lent a list of all three; a later reply of 2 is united with its first
     ∷ line (told 2 7 8 9 4 (7 ∷ [])) (refused 17)
     ∷ line (from 2 4) (accepted committed)
-    -- afterwards: a duplicate, a shard at the width, an empty row
+    -- afterwards: a duplicate, a shard at the width, an empty row, a shard that 1 has not named
     ∷ line (from 2 4) (accepted alreadyCommitted)
     ∷ line (from 0 8) (refused 16)
     ∷ line (from 1 0) (accepted alreadyCommitted)
+    ∷ line (from 1 4) (accepted alreadyCommitted)
     ∷ []
 
 answers : Tally → List Line → List (Outcome Said)
@@ -61,12 +62,13 @@ ran : answers opened run ≡ map (λ (l : Line). l .says) run
 unfolding ones opened fresh from line run answers replyOf tallyAfter replyRefusal isSameValue isPopulation isShards isQuorum isFaultList noted isCommitting commits isCovered leaves unionOf count
 ran = refl
 
--- of the run, what was said to those not refused; and the tally afterwards, with the rows of the replies that were counted
+-- of the run, what was said to those not refused; and the tally afterwards, with the rows of the replies that were counted:
+-- those after commitment are not in it
 given : List Reply
 unfolding line run
 given = map (λ (l : Line). l .reply) run
 
-said : map (λ (u : Taken). u .1) (taken opened given) ≡ false ∷ false ∷ false ∷ false ∷ true ∷ true ∷ true ∷ []
+said : map (λ (u : Taken). u .1) (taken opened given) ≡ false ∷ false ∷ false ∷ false ∷ true ∷ true ∷ true ∷ true ∷ []
 unfolding ones opened fresh from line run given replyOf tallyAfter replyRefusal isSameValue isPopulation isShards isQuorum isFaultList noted isCommitting commits isCovered leaves unionOf count
 said = refl
 

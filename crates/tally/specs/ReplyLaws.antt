@@ -24,8 +24,8 @@ use Rattle.refusals.specs.Outcome.{outcome, written}
 use Rattle.coverage.specs.Coverage.{commits}
 use Rattle.coverage.specs.CoverageLaws.{Held, commits-means}
 use Rattle.tally.specs.declared.Tally.{Tally}
-use Rattle.tally.specs.Tally.{Reply, waiting, committed, alreadyCommitted, openRefusal, fresh, isSameValue, replyRefusal, rowWith}
-use Rattle.tally.specs.Tally.{noted, isCommitting, settled, replyOf, tallyAfter}
+use Rattle.tally.specs.Tally.{Reply, Said, waiting, committed, alreadyCommitted, openRefusal, fresh, isSameValue, replyRefusal, rowWith}
+use Rattle.tally.specs.Tally.{noted, isCommitting, settled, isTaken, saidOf, replyOf, tallyAfter}
 use Rattle.tally.specs.RefusalLaws.{openable, countable}
 use Rattle.tally.specs.Replies.{saysCommitted, Taken, taking, taken, unrefused, afterAll, replies, lastOr, lastSaid, Stays, Heard, Named, Left, Commits, Lent, Included}
 
@@ -53,6 +53,15 @@ by-reply t r P refuses already counts = go (replyRefusal t r) refl (t .committed
     go zero e true c = already e c
     go zero e false c = subst (λ (b : Bool). P (λ us. (r, b) ∷ us) (counted t r)) (sym (says (counted t r .committed))) (counts e c)
     go (suc k) e b c = refuses (λ z. omega arith)
+
+-- a refused reply leaves the tally as it was
+pub refused-leaves : (t : Tally) (r : Reply) → isTaken (replyOf t r) ≡ false → tallyAfter t r ≡ t
+unfolding replyOf tallyAfter
+refused-leaves t r = go (replyRefusal t r) (saidOf t r) (cond (t .committed) t (counted t r))
+  where
+    go : (k : ℕ) (said : Said) (u : Tally) → isTaken (outcome k said) ≡ false → written k u t ≡ t
+    go zero said u e = absurd (true≢false e)
+    go (suc k) said u e = refl
 
 -- ---- what is answered
 

@@ -1,5 +1,5 @@
 -- The tally of accept replies: its opening, what refuses a reply, and what a reply does. Assumes nothing.
-use mathlib.Core.Bool.{Bool, false, cond, _&&_}
+use mathlib.Core.Bool.{Bool, true, false, cond, _&&_}
 use mathlib.Core.List.{List, [], _∷_}
 use Prim.Native.Nat.{ℕ}
 use lib.Bits.{bitOr}
@@ -129,6 +129,11 @@ answer (Answering.Refused k) = refused k
 answer Answering.Waiting = accepted waiting
 answer Answering.Committed = accepted committed
 answer Answering.AlreadyCommitted = accepted alreadyCommitted
+
+-- whether it is no refusal
+abbrev pub isTaken : Outcome Said → Bool
+isTaken (refused k) = false
+isTaken (accepted said) = true
 
 -- after commitment "already committed"; otherwise by the reply counted
 abbrev pub saidOf : Tally → Reply → Said

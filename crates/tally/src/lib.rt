@@ -1,7 +1,7 @@
 // The tally of accept replies for one value at one ballot (handle_msg_accept_reply, after the value id test): the opening, and what a reply does to it.
 ghost use mathlib.Core.Path.{_≡_};
 ghost use Prim.Native.Nat.{_≤_, _<_};
-ghost use Rattle.tally.specs.Tally.{openRefusal, fresh, openingOf, rowWith, noted, isCommitting, told, isSameValue, replyRefusal, answer, replyOf, tallyAfter};
+ghost use Rattle.tally.specs.Tally.{openRefusal, fresh, openingOf, rowWith, noted, isCommitting, told, isSameValue, replyRefusal, answer, isTaken, replyOf, tallyAfter};
 use bitmap::ReplicaId;
 
 // Who has replied, and the shards that each has named. The row of a replica not heard has no meaning.
@@ -103,7 +103,7 @@ pub fn reply(
     }
 }
 
-// The same on a lent tally, as the source does it: a refusal leaves it as it was.
+// The same on a lent tally, as the source does it. A refused reply leaves it as it was: nothing is stored.
 pub fn accept_reply(
     t: &mut Tally,
     source: ReplicaId,
@@ -117,8 +117,22 @@ pub fn accept_reply(
         × (now (t .exit) ≡ tallyAfter (now (t .entry)) (told (source .0) ballot high low row (now (faults .entry)))) ⌝ }
 {
     let r = reply(*t, source, ballot, high, low, row, faults);
-    *t = r.tally;
+    if is_taken(r.answer) {
+        *t = r.tally;
+    }
     r.answer
+}
+
+// Whether an answer is no refusal.
+fn is_taken(a: Answer) -> bool
+    ensures { λ r. ⌜ r ≡ isTaken (answer a) ⌝ }
+{
+    match a {
+        Answer::Refused(_) => false,
+        Answer::Waiting => true,
+        Answer::Committed => true,
+        Answer::AlreadyCommitted => true,
+    }
 }
 
 fn open_refusal(n: usize, quorum: usize, d: usize, w: usize) -> u8

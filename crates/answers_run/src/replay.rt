@@ -1,7 +1,10 @@
 // Replays stored answers: whether an entry, asked through the C interface, answers the input of a line as the line says. differential/src/bin/stored.rs has
 // the format.
-use bitmap::ReplicaId;
-use tally::Tally;
+ghost use mathlib.Core.Path.{_≡_};
+ghost use Rattle.tally.specs.Tally.{told};
+ghost use Rattle.c_types.specs.TallyThroughC.{answerThrough, leftThrough};
+use c_types::Reply;
+use c_types::Tally;
 
 // The entries, by number.
 pub const PROFILE: u8 = 0;
@@ -400,6 +403,12 @@ fn is_gossip(w: &[u64], exclusions: &mut [u64]) -> bool {
 
 // ---- tallies: a whole list of replies, each with the tally that it leaves
 
+// What the C function returns, and the tally that it leaves.
+struct Accepted {
+    reply: Reply,
+    tally: Tally,
+}
+
 // Whether a reply is answered as it says, the tally that it leaves, and where the next one stands.
 struct Turn {
     right: bool,
@@ -424,7 +433,7 @@ fn is_tally(w: &[u64]) -> bool {
         return true;
     }
     let t = o.tally;
-    replies(c_types::from_tally(t), stored::at(w, 8), w)
+    replies(t, stored::at(w, 8), w)
 }
 
 // So many replies, the first of which stands at 9.
@@ -448,23 +457,40 @@ fn reply(t: Tally, w: &[u64], from: usize) -> Turn {
     let b = stored::after(w, from);
     let c = stored::after(b, 5);
     let owed = stored::behind(c);
-    let r = tally::reply(
+    let r = accept(
         t,
-        ReplicaId(stored::number(b, 0)),
+        stored::number(b, 0),
         stored::at(b, 1),
         stored::at(b, 2),
         stored::at(b, 3),
         stored::at(b, 4),
         stored::slice(c),
     );
-    let a = r.answer;
+    let said = r.reply;
     let u = r.tally;
-    let said = c_types::told(a);
     Turn {
         right: stored::is_said(said, owed) && is_left(u, owed),
         tally: u,
         next: next(w, from, u.population),
     }
+}
+
+// The C function on a tally of its own, which it lends.
+fn accept(
+    t: Tally,
+    source: usize,
+    ballot: u64,
+    high: u64,
+    low: u64,
+    row: u64,
+    faults: &[u64],
+) -> Accepted
+    ensures { λ r. ⌜ (r .reply ≡ answerThrough t (told source ballot high low row (now (faults .entry))))
+        × (r .tally ≡ leftThrough t (told source ballot high low row (now (faults .entry)))) ⌝ }
+{
+    let mut u = t;
+    let a = callboard::callboard_accept_reply(&mut u, source, ballot, high, low, row, faults);
+    Accepted { reply: a, tally: u }
 }
 
 // Where the reply after the one at `from` stands, in a tally of n replicas.
@@ -481,7 +507,7 @@ fn is_left(t: Tally, w: &[u64]) -> bool {
     if t.heard != stored::at(w, 2) {
         return false;
     }
-    if t.committed != c_types::is_set(stored::at(w, 3)) {
+    if t.committed != stored::at(w, 3) {
         return false;
     }
     let rows = t.rows;

@@ -1,8 +1,8 @@
--- `replay::replies` is safe and ends. Assumes nothing.
+-- `answers_run::replay::replies` is safe and ends. Assumes nothing.
 use Prim.Native.Nat.{_-_}
 use borrow.Author.Needs.{needs}
-use Rattle.replay.proofs.replies.Statement.{statement}
-use Rattle.replay.proofs.replies.Tie as tie
+use Rattle.answers_run.proofs.replay.replies.Statement.{statement}
+use Rattle.answers_run.proofs.replay.replies.Tie as tie
 
 abbrev Inv-loop : tie.InvT-loop
 Inv-loop count w t₀ left₀ from₀ t left from = Unit {0}

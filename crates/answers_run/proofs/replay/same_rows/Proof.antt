@@ -1,8 +1,8 @@
--- `replay::same_rows` is safe and ends. Assumes nothing.
+-- `answers_run::replay::same_rows` is safe and ends. Assumes nothing.
 use Prim.Native.Nat.{_≤_, _-_}
 use borrow.Author.Needs.{needs}
-use Rattle.replay.proofs.same_rows.Statement.{statement}
-use Rattle.replay.proofs.same_rows.Tie as tie
+use Rattle.answers_run.proofs.replay.same_rows.Statement.{statement}
+use Rattle.answers_run.proofs.replay.same_rows.Tie as tie
 
 abbrev Inv-loop : tie.InvT-loop
 Inv-loop n owed rows i₀ i = i ≤ 16

@@ -1,9 +1,9 @@
--- `replay::replay` is safe and ends. Assumes nothing.
+-- `answers_run::replay::replay` is safe and ends. Assumes nothing.
 use Prim.Native.Nat.{_≤_, _-_}
 use borrow.Author.Needs.{needs}
 use lib.ListN.{length}
-use Rattle.replay.proofs.replay.Statement.{statement}
-use Rattle.replay.proofs.replay.Tie as tie
+use Rattle.answers_run.proofs.replay.replay.Statement.{statement}
+use Rattle.answers_run.proofs.replay.replay.Tie as tie
 
 abbrev Inv-loop : tie.InvT-loop
 Inv-loop entry text count₀ at₀ count at = at ≤ length text
