@@ -1,3 +1,4 @@
 -- The reliability profile: its check, and the unreliability of a peer.
 pub mod Profile
 pub mod Unreliability
+pub mod RefusalLaws
