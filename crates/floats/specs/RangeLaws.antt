@@ -1,4 +1,5 @@
--- Which floats lie from 0 to 1, over whole numbers: `fin s m e` is m × 2 ^ e, negative where s is true, and 2 ^ e is up e / down e. Assumes nothing.
+-- Which floats lie from 0 to 1, over whole numbers: `fin s m e` is m × 2 ^ e, negative where s is true, and 2 ^ e is up e / down e.
+-- Assumes nothing.
 use mathlib.Core.Path.{_≡_, sym, ap, _∙_, subst}
 use mathlib.Core.Logic.{_↔_}
 use mathlib.Core.Bool.{Bool, true, false, and-eq-true-iff, true≢false}
@@ -46,7 +47,9 @@ below-one m e = (
 negative-zero : (m : ℕ) (e : ℤ) → (le plusZero (fin true m e) ≡ true) ↔ (m ≡ 0)
 unfolding le
 negative-zero m e = (
-  λ t. let h = number false (0 * down e) true (m * up e * 1) (is t) in zero-of m (up e) (up-pos e) (omega (arith, mul-one (m * up e), h .1)),
+  λ t.
+      let h = number false (0 * down e) true (m * up e * 1) (is t) in
+      zero-of m (up e) (up-pos e) (omega (arith, mul-one (m * up e), h .1)),
   λ z. holds (test false (0 * down e) true (m * up e * 1) (zero-mul (down e), ap (λ (k : ℕ). k * up e * 1) z ∙ simp zero-mul)),
 )
 

@@ -42,7 +42,8 @@ module _ {A : Type 0} (p : A → Bool) (d : A) (past : p d ≡ true) where
   back : (k : ℕ) (xs : List A) → ((i : ℕ) → i < k → p (getD xs i d) ≡ true) → all p (take k xs) ≡ true
   back zero xs h = refl
   back (suc k) [] h = refl
-  back (suc k) (x ∷ xs) h = and-eq-true-iff (p x) (all p (take k xs)) .1 (h zero (zero-lt-suc k), back k xs (λ i l. h (suc i) (omega arith)))
+  back (suc k) (x ∷ xs) h =
+      and-eq-true-iff (p x) (all p (take k xs)) .1 (h zero (zero-lt-suc k), back k xs (λ i l. h (suc i) (omega arith)))
 
   taken-means : (k : ℕ) (xs : List A) → (all p (take k xs) ≡ true) ↔ ((i : ℕ) → i < k → p (getD xs i d) ≡ true)
   taken-means k xs = (forth k xs, back k xs)
@@ -102,7 +103,8 @@ module _ (n : ℕ) (p : Profile) where
     λ h. go (eqb (p .«prob_count») 0) refl h,
   )
     where
-      go : (b : Bool) → eqb (p .«prob_count») 0 ≡ b → ((p .«prob_count» ≡ 0 → ⊥) → Chances) → (not (not b) || (eqb (p .«prob_count») n && tests)) ≡ true
+      go : (b : Bool) → eqb (p .«prob_count») 0 ≡ b → ((p .«prob_count» ≡ 0 → ⊥) → Chances)
+          → (not (not b) || (eqb (p .«prob_count») n && tests)) ≡ true
       go true q h = refl
       go false q h = chances-means .1 (h (eqb-false (p .«prob_count») 0 q))
 
