@@ -48,9 +48,14 @@ stepShards d majority i = (i + 1) * (d / majority)
 abbrev pub steps : ℕ → ℕ → ℕ
 steps d majority = d / (d / majority)
 
--- it waits for majority + f - i replicas, each with the load (size / d, rounded down, + 1) × its shards
+-- it waits for majority + f - i replicas
+abbrev pub stepQuorum : ℕ → ℕ → ℕ → ℕ
+stepQuorum majority f i = majority + f - i
+
+-- each with the load (size / d, rounded down, + 1) × its shards
 unfoldable pub timeOfStep : ℕ → ℕ → ℕ → ℕ → ℕ → ℕ → List ℕ → List PerfModel → ℕ → Float
-timeOfStep n f own d majority size inflight models i = stepTime n own (majority + f - i) ((size / d + 1) * stepShards d majority i) inflight models
+timeOfStep n f own d majority size inflight models i =
+    stepTime n own (stepQuorum majority f i) ((size / d + 1) * stepShards d majority i) inflight models
 
 -- the first least step
 unfoldable pub bestStep : ℕ → ℕ → ℕ → ℕ → ℕ → ℕ → List ℕ → List PerfModel → ℕ
