@@ -2,3 +2,4 @@
 pub mod Profile
 pub mod Unreliability
 pub mod RefusalLaws
+pub mod ChanceLaws
