@@ -69,17 +69,17 @@ within (inf false) a b = no (unfold le in b)
 within (fin true m e) a b = negative-zero m e .0 a
 within (fin false m e) a b = below-one m e .0 b
 
-tested : (x : Float) → FromZeroToOne x → (le plusZero x ≡ true) × (le x one ≡ true)
-tested nan h = absurd h
-tested (inf s) h = absurd h
-tested (fin true m e) h = (negative-zero m e .1 h, negative-below m e)
-tested (fin false m e) h = (zero-below m e, below-one m e .1 h)
+pub bounds : (x : Float) → FromZeroToOne x → (le plusZero x ≡ true) × (le x one ≡ true)
+bounds nan h = absurd h
+bounds (inf s) h = absurd h
+bounds (fin true m e) h = (negative-zero m e .1 h, negative-below m e)
+bounds (fin false m e) h = (zero-below m e, below-one m e .1 h)
 
 pub probability-means : (x : Float) → (isProbability x ≡ true) ↔ FromZeroToOne x
 unfolding isProbability
 probability-means x = (
   λ t. let p = and-eq-true-iff (le plusZero x) (le x one) .0 t in within x (p .0) (p .1),
-  λ h. and-eq-true-iff (le plusZero x) (le x one) .1 (tested x h),
+  λ h. and-eq-true-iff (le plusZero x) (le x one) .1 (bounds x h),
 )
 
 -- ---- and what is above +0 and at most 1
