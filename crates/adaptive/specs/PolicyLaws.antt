@@ -21,7 +21,7 @@ use Rattle.refusals.specs.OutcomeLaws.{accepted-means}
 use Rattle.refusals.specs.OutcomeLaws as Outcomes
 use Rattle.times.specs.declared.PerfModel.{PerfModel}
 use Rattle.adaptive.specs.Floor.{floorOf, floorRefusal, minShardsOf}
-use Rattle.steps.specs.Steps.{stepShards}
+use Rattle.steps.specs.Steps.{stepShards, stepQuorum}
 use Rattle.steps.specs.StepLaws.{shares-whole, shares-positive}
 use Rattle.adaptive.specs.Policy.{hasCount, rowsFor, policyRefusal, bestShards, choiceOf, policyOf, rowsOf, Holds}
 use Rattle.adaptive.specs.RefusalLaws.{floor-sound, PolicySound, policy-sound}
@@ -53,12 +53,14 @@ module _ (f d majority alive : ℕ) (filled : 0 < d) (multiple : d % majority �
       many (yes h) e = h
       many (no h) e = let p : 0 < lacking * (d / majority) = mul-pos (omega arith) part-filled in absurd (omega arith)
 
-  -- step i has as many shards exactly if it needs no more replicas than are alive, or is the last
-  pub floor-step : (i : ℕ) → i < majority → (floorOf f d majority alive ≤ stepShards d majority i) ↔ ((majority + f - i ≤ alive) ⊎ (suc i ≡ majority))
+  -- step i has as many shards exactly if it waits for no more replicas than are alive, or is the last
+  pub floor-step : (i : ℕ) → i < majority
+      → (floorOf f d majority alive ≤ stepShards d majority i) ↔ ((stepQuorum majority f i ≤ alive) ⊎ (suc i ≡ majority))
   unfolding floorOf
   floor-step i l = (forth (decLe (lacking * (d / majority)) d), back)
     where
-      forth : Dec (lacking * (d / majority) ≤ d) → min (lacking * (d / majority)) d ≤ (i + 1) * (d / majority) → (majority + f - i ≤ alive) ⊎ (suc i ≡ majority)
+      forth : Dec (lacking * (d / majority) ≤ d) → min (lacking * (d / majority)) d ≤ (i + 1) * (d / majority)
+          → (stepQuorum majority f i ≤ alive) ⊎ (suc i ≡ majority)
       forth (yes h) e =
           let p : lacking * (d / majority) ≤ (i + 1) * (d / majority) = omega arith in
           let q : lacking ≤ i + 1 = le-of-mul-le-mul-right p part-filled in
@@ -68,7 +70,7 @@ module _ (f d majority alive : ℕ) (filled : 0 < d) (multiple : d % majority �
           let q : majority ≤ i + 1 = le-of-mul-le-mul-right p part-filled in
           inr (omega arith)
 
-      back : (majority + f - i ≤ alive) ⊎ (suc i ≡ majority) → min (lacking * (d / majority)) d ≤ (i + 1) * (d / majority)
+      back : (stepQuorum majority f i ≤ alive) ⊎ (suc i ≡ majority) → min (lacking * (d / majority)) d ≤ (i + 1) * (d / majority)
       back (inl h) = let p : lacking * (d / majority) ≤ (i + 1) * (d / majority) = mul-le-mul-right (d / majority) (omega arith) in omega arith
       back (inr h) = let p : majority * (d / majority) ≤ (i + 1) * (d / majority) = mul-le-mul-right (d / majority) (omega arith) in omega (arith, whole)
 
@@ -79,12 +81,12 @@ module _ (n f d majority alive : ℕ) where
   unfolding minShardsOf
   floor-answer k = accepted-means (floorRefusal n f d majority alive) (floorOf f d majority (count alive)) k
 
-  -- it is at most d; it is 0 exactly if more than majority + f are alive; and step i has as many shards exactly if it needs no more replicas than are alive,
-  -- or is the last
+  -- it is at most d; it is 0 exactly if more than majority + f are alive; and step i has as many shards exactly if it waits for no more replicas
+  -- than are alive, or is the last
   pub record IsFloor (k : ℕ) : Type 0 where
     pub within : k ≤ d
     pub nothing : (k ≡ 0) ↔ (majority + f < count alive)
-    pub each-step : (i : ℕ) → i < majority → (k ≤ stepShards d majority i) ↔ ((majority + f - i ≤ count alive) ⊎ (suc i ≡ majority))
+    pub each-step : (i : ℕ) → i < majority → (k ≤ stepShards d majority i) ↔ ((stepQuorum majority f i ≤ count alive) ⊎ (suc i ≡ majority))
 
   pub floor-means : floorRefusal n f d majority alive ≡ 0 → IsFloor (floorOf f d majority (count alive))
   floor-means e =

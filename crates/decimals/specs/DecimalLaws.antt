@@ -1,23 +1,26 @@
--- What the value of a decimal is: of the doubles the nearest to digits * 10 ^ ups / 10 ^ downs, with its sign, and at a tie the even one. Assumes nothing.
+-- What the value of a decimal is: of the doubles the nearest to digits * 10 ^ ups / 10 ^ downs, at a tie the even one, and with the sign of its text, a zero
+-- too. Assumes nothing.
 use mathlib.Core.Path.{_≡_, refl, sym, ap, _∙_}
-use mathlib.Core.Bool.{Bool, true, false, cond, _&&_, and-eq-true-iff}
-use mathlib.Core.List.{List}
+use mathlib.Core.Bool.{Bool, true, false, cond, _&&_, and-eq-true-iff, true≢false}
+use mathlib.Core.Logic.{_↔_}
+use mathlib.Core.List.{List, [], _∷_}
 use Prim.Native.Nat.{ℕ, _+_, _*_, _^_, _≤_, _<_}
 use native.Mathlib.Nat.{le-trans, le-of-eq, le-of-lt, mul-le-mul-left, mul-le-mul-right, mul-assoc, pow-le-pow-right}
 use native.Mathlib.Omega.{arith}
-use borrow.Author.Tests.{leb-true}
+use borrow.Author.Tests.{eqb-true, eq-eqb, leb-true}
 use lib.Dec.{T, leb}
-use lib.ListN.{length}
+use lib.ListN.{length, getD}
 use lib.Pow.{pow-add}
 use lib.Ieee.{Float, binary64, fits}
 use lib.Ieee.Fits.{round-fits}
 use lib.Ieee.Scale.{finite}
 use Rattle.refusals.specs.Numbers.{DIGITS}
 use Rattle.refusals.specs.Outcome.{refused, accepted}
-use Rattle.rounding.specs.Nearest.{NoFurther, AsFar, IsEven}
+use Rattle.rounding.specs.Nearest.{negative, NoFurther, AsFar, IsEven}
 use Rattle.rounding.specs.NearestLaws.{nearest, tie-even}
+use Rattle.rounding.specs.SignLaws.{round-sign}
 use Rattle.rounding.specs.FiniteLaws.{round-finite}
-use Rattle.decimals.specs.Decimal.{Written, writtenOf, isWellFormed, counted, ups, downs, isShort, digits, valueOf, decimalOf}
+use Rattle.decimals.specs.Decimal.{isNegative, Written, writtenOf, isWellFormed, counted, ups, downs, isShort, digits, valueOf, decimalOf}
 use Rattle.decimals.specs.DigitLaws.{ten-pos, formed, both-small}
 
 -- ---- which are accepted
@@ -56,6 +59,18 @@ value-finite w e h =
     let n = both-small (w .whole) (w .fraction) (d .whole-digits) (leb-true _ _ (a .0)) (d .fraction-digits) in
     round-finite (w .negative) (digits w * 10 ^ ups w) (10 ^ downs w) (ten-pos (downs w)) (room (digits w) (ups w) (downs w) n (leb-true _ _ (c .0)))
 
+-- ---- its sign
+
+-- a - stands at its start: its first byte is 45
+minus-means : (s : List ℕ) → (isNegative s ≡ true) ↔ (getD s 0 0 ≡ 45)
+unfolding isNegative
+minus-means [] = (λ e. absurd (true≢false (sym e)), λ h. absurd (omega arith))
+minus-means (b ∷ bs) = (eqb-true b 45, eq-eqb b 45)
+
+value-sign : (s : List ℕ) → negative (valueOf (writtenOf s)) ≡ isNegative s
+unfolding writtenOf
+value-sign s = round-sign binary64 _ _ _
+
 -- ---- the double of an accepted decimal
 
 module _ (s : List ℕ) (x : Float) (e : decimalOf s ≡ accepted x) where
@@ -65,6 +80,12 @@ module _ (s : List ℕ) (x : Float) (e : decimalOf s ≡ accepted x) where
   -- it is a double, and finite
   pub decimal-fits : T (fits binary64 x)
   decimal-fits = rw decimal-value (round-fits binary64 _ _ _)
+
+  -- it is negative exactly if its text begins with -, and so is -0
+  pub decimal-sign : (negative x ≡ true) ↔ (getD s 0 0 ≡ 45)
+  decimal-sign =
+      let q : negative x ≡ isNegative s = ap negative decimal-value ∙ value-sign s in
+      (λ e. minus-means s .0 (sym q ∙ e), λ h. q ∙ minus-means s .1 h)
 
   rounds : T (finite (valueOf (writtenOf s)))
   rounds = let a = accepted-means s x e in value-finite (writtenOf s) (a .well-formed) (a .short)

@@ -3,3 +3,4 @@ pub mod Family
 pub mod Marks
 pub mod FaultList
 pub mod FaultListLaws
+pub mod RefusalLaws

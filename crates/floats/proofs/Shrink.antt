@@ -1,6 +1,6 @@
 -- A finite value that is not negative, times a probability, is no larger. Assumes nothing.
 use mathlib.Core.Path.{_≡_, refl, sym, ap, _∙_, subst}
-use mathlib.Core.Bool.{Bool, true, false, _&&_, _||_, true≢false, and-eq-true-iff}
+use mathlib.Core.Bool.{Bool, true, false, _&&_, _||_, true≢false}
 use Prim.Native.Nat.{ℕ, zero, suc, _+_, _-_, _*_, _%_, _^_, _≤_, _<_}
 use native.Mathlib.Nat.{le-refl, le-of-eq, le-trans, lt-of-le-of-lt, lt-of-lt-of-le, lt-of-not-le, not-le-of-lt, mul-pos, mul-one, zero-add, zero-mul, mul-zero, mul-assoc, mul-comm, mul-right-comm, mul-le-mul-left, mul-le-mul-right, mul-lt-mul-of-pos-right, zero-lt-suc, lt-irrefl, eq-of-mul-eq-mul-right, le-of-suc-le-suc}
 use native.Mathlib.Omega.{arith}
@@ -18,6 +18,7 @@ use lib.Ieee.Positive.{num, den, den-pos, positive, own-value, mul-at, le→cros
 use Rattle.floats.specs.Floats.{plusZero, one, isFinite, isProbability, Fine}
 use Rattle.floats.specs.NumberLaws.{AtMost, test, holds}
 use Rattle.floats.specs.OrderLaws.{same-bits}
+use Rattle.floats.specs.RangeLaws.{bounds, probability-means}
 
 -- ---- what it takes to fit
 fits-small : (s : Bool) (m : ℕ) (e : ℤ) → T (fits binary64 (fin s (suc m) e)) → (suc m < 2 ^ 53) × (down e ≤ 2 ^ 1074) × (suc m * up e < 2 ^ 1024 * down e)
@@ -224,15 +225,14 @@ module _ (x p : Float) (f : Fine x) (q : isProbability p ≡ true) where
   is : (b : Bool) → b ≡ true → T b
   is b e = subst T (sym e) tt
 
-  bounds : (le plusZero p ≡ true) × (le p one ≡ true)
-  unfolding isProbability
-  bounds = and-eq-true-iff (le plusZero p) (le p one) .0 q
+  within : (le plusZero p ≡ true) × (le p one ≡ true)
+  within = bounds p (probability-means p .0 q)
 
   lowered : T (le (mul binary64 x p) x)
-  lowered = never-raises-T x p (f .fit) (is (isFinite x) (f .finite)) (is (le plusZero x) (f .above)) (is (le plusZero p) (bounds .0)) (is (le p one) (bounds .1))
+  lowered = never-raises-T x p (f .fit) (is (isFinite x) (f .finite)) (is (le plusZero x) (f .above)) (is (le plusZero p) (within .0)) (is (le p one) (within .1))
 
   raised : T (le plusZero (mul binary64 x p))
-  raised = mul-above x p (is (isFinite x) (f .finite)) (is (le plusZero x) (f .above)) (is (le plusZero p) (bounds .0)) (is (le p one) (bounds .1))
+  raised = mul-above x p (is (isFinite x) (f .finite)) (is (le plusZero x) (f .above)) (is (le plusZero p) (within .0)) (is (le p one) (within .1))
 
   -- a factor from 0 to 1 never raises such a value
   pub never-raises : le (mul binary64 x p) x ≡ true

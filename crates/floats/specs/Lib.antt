@@ -3,3 +3,4 @@ pub mod Floats
 pub mod NumberLaws
 pub mod OrderLaws
 pub mod FirstLaws
+pub mod RangeLaws

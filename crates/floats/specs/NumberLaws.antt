@@ -59,7 +59,7 @@ test true a false b h = go (ltb 0 (a + b)) refl
 test true a true b h = elim (eq-or-lt-of-le h) [ inl p ↦ rw (le-ltb b a (le-of-eq (sym p)), eq-eqb a b (sym p)) tt | inr q ↦ rw (lt-ltb b a q) tt ]
 
 -- a product with a number above zero is zero only where the other factor is
-zero-of : (x q : ℕ) → 0 < q → x * q ≤ 0 → x ≡ 0
+pub zero-of : (x q : ℕ) → 0 < q → x * q ≤ 0 → x ≡ 0
 zero-of x q Q h = elim (eq-zero-or-pos x) [ inl e ↦ e | inr p ↦ absurd (lt-irrefl 0 (lt-of-lt-of-le (mul-pos p Q) h)) ]
 
 times : (x k : ℕ) → x ≡ 0 → x * k ≡ 0

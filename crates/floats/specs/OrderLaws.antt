@@ -1,4 +1,5 @@
--- Total order is total, transitive and, on values that fit, antisymmetric; it agrees with `<=` on numbers. Assumes nothing.
+-- Total order is total, transitive and, on values that fit, antisymmetric; it agrees with `<=` on numbers; what the larger of two is.
+-- Assumes nothing.
 use mathlib.Core.Logic.{_⊎_, inl, inr}
 use mathlib.Core.Path.{_≡_, refl, sym, ap, subst, _∙_}
 use mathlib.Core.Bool.{Bool, true, false, cond, and-eq-true-iff, true≢false}
@@ -13,7 +14,7 @@ use lib.Ieee.Bits.{ofBits-toBits}
 use lib.Ieee.Positive.{through}
 use borrow.Author.Tests.{leb-true, leb-false, le-leb}
 use Rattle.floats.specs.NumberLaws.{AtMost, number, test, holds, zero-eq}
-use Rattle.floats.specs.Floats.{plusZero, signedLe, totalLe, isSame}
+use Rattle.floats.specs.Floats.{plusZero, signedLe, totalLe, isSame, larger}
 
 no : {X : Type 0} → false ≡ true → X
 no p = absurd (true≢false (sym p))
@@ -42,6 +43,31 @@ total (fin s m e) nan p = no' p
 total (fin s m e) (inf true) p = refl
 total (fin s m e) (inf false) p = no' p
 total (fin s m e) (fin t n d) p = signed-total s (m * up e * down d) t (n * up d * down e) p
+
+self : (x : Float) → totalLe x x ≡ true
+self x = go (totalLe x x) refl
+  where
+    go : (b : Bool) → totalLe x x ≡ b → totalLe x x ≡ true
+    go true e = e
+    go false e = total x x e
+
+-- the larger is one of the two, and both are at most it; where the second is a NaN it is the first
+pub record Larger (a b x : Float) : Type 0 where
+  pub one-of : (x ≡ a) ⊎ (x ≡ b)
+  pub above-first : totalLe a x ≡ true
+  pub above-second : totalLe b x ≡ true
+
+pub larger-means : (a b : Float) → isNan b ≡ false → Larger a b (larger a b)
+unfolding larger
+larger-means a b w = rw w (go (totalLe a b) refl)
+  where
+    go : (t : Bool) → totalLe a b ≡ t → Larger a b (cond t b a)
+    go true e = record { one-of = inr refl; above-first = e; above-second = self b }
+    go false e = record { one-of = inl refl; above-first = self a; above-second = total a b e }
+
+pub larger-nan : (a b : Float) → isNan b ≡ true → larger a b ≡ a
+unfolding larger
+larger-nan a b w = rw w
 
 -- fractions x / p, y / q, z / r with signs
 signed-trans : (s t u : Bool) (x y z p q r : ℕ) → 0 < q → signedLe s (x * q) t (y * p) ≡ true → signedLe t (y * r) u (z * q) ≡ true → signedLe s (x * r) u (z * p) ≡ true

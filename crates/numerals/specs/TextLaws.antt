@@ -1,19 +1,35 @@
--- What the parts of a split text are, and how a reader goes through them. Assumes nothing.
+-- What a text is in numbers, what the parts of a split text are, and how a reader goes through them. Assumes nothing.
 use mathlib.Core.Path.{_≡_, refl, sym, ap, _∙_}
-use mathlib.Core.Bool.{Bool, true, false, cond, _||_}
+use mathlib.Core.Bool.{Bool, true, false, cond, _||_, and-eq-true-iff}
 use mathlib.Core.List.{List, [], _∷_}
-use mathlib.Core.Logic.{⊎-elim}
+use mathlib.Core.Logic.{_↔_, ⊎-elim}
 use Prim.Native.Nat.{ℕ, suc, _+_, _≤_, _<_, zero-le, suc-le-suc}
 use native.Mathlib.Decide.{decLt}
 use native.Mathlib.Omega.{arith}
 use native.Mathlib.Numerals.{add-one}
 use native.Mathlib.Nat.{le-refl, lt-irrefl, eq-or-lt-of-le}
-use lib.Dec.{eqb, ltb}
-use lib.ListN.{length, drop, take, length-drop}
+use lib.Dec.{eqb, leb, ltb}
+use lib.ListN.{length, drop, getD, take, length-drop}
 use lib.Seq.{take-length, length-take-le, drop-drop}
-use borrow.Author.Tests.{lt-ltb, le-ltb, eq-eqb, ne-eqb}
-use Rattle.lists.specs.All.{any}
-use Rattle.numerals.specs.Text.{cutBy, isByte, cut, push, split}
+use borrow.Author.Tests.{leb-true, le-leb, ltb-true, lt-ltb, le-ltb, eq-eqb, ne-eqb}
+use Rattle.lists.specs.All.{all, any}
+use Rattle.lists.specs.AllLaws.{all-means}
+use Rattle.numerals.specs.Text.{isAscii, isText, cutBy, isByte, cut, push, split}
+
+-- at most so many bytes, each below 128
+abbrev pub Ascii : ℕ → List ℕ → Type 0
+Ascii most s = (length s ≤ most) × ((i : ℕ) → i < length s → getD s i 0 < 128)
+
+pub text-means : (most : ℕ) (s : List ℕ) → (isText most s ≡ true) ↔ Ascii most s
+unfolding isText
+text-means most s = (
+  λ e.
+      let p = and-eq-true-iff (leb (length s) most) (all isAscii s) .0 e in
+      (leb-true (length s) most (p .0), λ i h. ltb-true (getD s i 0) 128 (all-means isAscii 0 s .0 (p .1) i h)),
+  λ h.
+      and-eq-true-iff (leb (length s) most) (all isAscii s) .1
+      (le-leb (length s) most (h .0), all-means isAscii 0 s .1 (λ i l. lt-ltb (getD s i 0) 128 (h .1 i l))),
+)
 
 pick-le : (t : Bool) (k n : ℕ) → k ≤ n → cond t 0 (suc k) ≤ suc n
 pick-le true k n h = zero-le

@@ -5,7 +5,7 @@ use mathlib.Core.Logic.{_↔_, ⊎-elim}
 use mathlib.Core.Bool.{Bool, true, false, not, cond}
 use mathlib.Core.List.{List}
 use Prim.Native.Nat.{ℕ, suc, _+_, _-_, _*_, _/_, _%_, _≤_, _<_}
-use native.Mathlib.Nat.{mul-le-mul-right, mul-div-le, div-le-self, div-add-mod, le-div-iff-mul-le, mul-div-left, eq-zero-or-pos}
+use native.Mathlib.Nat.{mul-le-mul-right, mul-div-le, div-le-self, div-add-mod, div-lt-iff-lt-mul, le-div-iff-mul-le, mul-div-left, eq-zero-or-pos}
 use native.Mathlib.Numerals.{add-one}
 use native.Mathlib.Decide.{decLt}
 use native.Mathlib.Omega.{arith}
@@ -25,7 +25,7 @@ use Rattle.floats.specs.FirstLaws.{Fits}
 use Rattle.floats.specs.OrderLaws as Order
 use Rattle.times.specs.declared.PerfModel.{PerfModel}
 use Rattle.times.specs.Times.{never, predictOf}
-use Rattle.steps.specs.Steps.{peerAt, peerTime, peerTimes, stepTime, stepShards, steps, timeOfStep, bestStep}
+use Rattle.steps.specs.Steps.{peerAt, peerTime, peerTimes, stepTime, stepShards, steps, stepLength, timeOfStep, bestStep}
 
 -- ---- the steps: those whose count is at most d
 
@@ -53,6 +53,10 @@ pub step-shards-le : (d majority i : ℕ) → i < majority → stepShards d majo
 step-shards-le d majority i h =
     let m : (i + 1) * (d / majority) ≤ majority * (d / majority) = mul-le-mul-right (d / majority) (omega arith) in
     omega (arith, m, mul-div-le d majority)
+
+-- ---- a shard's bytes: the least number of which d are more than the size
+pub step-length-means : (size d m : ℕ) → 0 < d → (stepLength size d ≤ m) ↔ (size < m * d)
+step-length-means size d m h = rw add-one (div-lt-iff-lt-mul h)
 
 -- ---- the peers: the replicas but our own, each once
 module _ (own j : ℕ) where

@@ -48,9 +48,18 @@ stepShards d majority i = (i + 1) * (d / majority)
 abbrev pub steps : ℕ → ℕ → ℕ
 steps d majority = d / (d / majority)
 
--- it waits for majority + f - i replicas, each with the load (size / d, rounded down, + 1) × its shards
+-- it waits for majority + f - i replicas
+abbrev pub stepQuorum : ℕ → ℕ → ℕ → ℕ
+stepQuorum majority f i = majority + f - i
+
+-- a shard is counted as size / d bytes, rounded down, + 1
+abbrev pub stepLength : ℕ → ℕ → ℕ
+stepLength size d = size / d + 1
+
+-- each with the load of its shards
 unfoldable pub timeOfStep : ℕ → ℕ → ℕ → ℕ → ℕ → ℕ → List ℕ → List PerfModel → ℕ → Float
-timeOfStep n f own d majority size inflight models i = stepTime n own (majority + f - i) ((size / d + 1) * stepShards d majority i) inflight models
+timeOfStep n f own d majority size inflight models i =
+    stepTime n own (stepQuorum majority f i) (stepLength size d * stepShards d majority i) inflight models
 
 -- the first least step
 unfoldable pub bestStep : ℕ → ℕ → ℕ → ℕ → ℕ → ℕ → List ℕ → List PerfModel → ℕ
