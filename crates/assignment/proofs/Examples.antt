@@ -164,11 +164,13 @@ picks : map (λ (l : Line). told (pickOf (l .n) (l .own) (l .quorum) (l .d) (l .
 unfolding line sheet pickOf pickRefusal peersFit someBelow isPopulation isShards isQuorum isFaultList planOf firstTime commitsAt answeredAt loadsAt runAt runFrom maskBelow eachBelow loadsFor shardLength timesOf timeAt replyTime settled predictOf isFinite add mul div ofInt ofBits toBits le totalLe layoutCommits commits isCovered leaves unionOf count widthOf rowFor rowsOf gather trimmed trimmedIn tried keeps trimOrder peersOf thoseBelow slower lowerBy upperBy
 picks = refl
 
--- the lent table at exit, of a quorum and the peers: a plan's rows; and what it held, where both peers are silent, and where the quorum is refused
+-- the lent table at exit, of a quorum and the peers: a plan's rows; and what it held, where both peers are silent, and where the quorum is
+-- refused
 abbrev table : ℕ → List PeerRecord → List ℕ
 table quorum peers = planned (pickOf 3 0 quorum 2 (AtMost 3) 2097152 peers (ofBits binary64 0) ones 3) (9 ∷ 9 ∷ 9 ∷ [])
 
-tables : (table 2 both ∷ table 2 (silent ∷ silent ∷ silent ∷ []) ∷ table 4 both ∷ []) ≡ ((3 ∷ 1 ∷ 2 ∷ []) ∷ (9 ∷ 9 ∷ 9 ∷ []) ∷ (9 ∷ 9 ∷ 9 ∷ []) ∷ [])
+tables : (table 2 both ∷ table 2 (silent ∷ silent ∷ silent ∷ []) ∷ table 4 both ∷ [])
+    ≡ ((3 ∷ 1 ∷ 2 ∷ []) ∷ (9 ∷ 9 ∷ 9 ∷ []) ∷ (9 ∷ 9 ∷ 9 ∷ []) ∷ [])
 unfolding pickOf pickRefusal peersFit someBelow isPopulation isShards isQuorum isFaultList planOf firstTime commitsAt answeredAt loadsAt runAt runFrom maskBelow eachBelow loadsFor shardLength timesOf timeAt replyTime settled predictOf isFinite add mul div ofInt ofBits toBits le totalLe layoutCommits commits isCovered leaves unionOf count widthOf rowFor rowsOf gather trimmed trimmedIn tried keeps trimOrder peersOf thoseBelow slower lowerBy upperBy
 tables = refl
 

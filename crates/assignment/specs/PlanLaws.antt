@@ -1,5 +1,5 @@
--- What a plan and full copies are: what an unrefused input is in numbers, what is planned of it, and that its rows are rows of its width and survive; full
--- copies are the layout of n loads of d.
+-- What a plan and full copies are: what an unrefused input is in numbers, what is planned of it, and that its rows are rows of its width
+-- and survive; full copies are the layout of n loads of d.
 -- Assumes nothing.
 use mathlib.Core.Path.{_≡_, refl, sym, ap, subst, _∙_}
 use mathlib.Core.Logic.{_↔_}
@@ -179,7 +179,8 @@ module _ (n own quorum d : ℕ) (total : TotalShards) (faults : List ℕ) (times
   pub own-load-for : own < n → getD (loadsFor n own quorum d total faults times t) own 0 ≡ d
   unfolding loadsFor
   own-load-for l =
-      trimmed-other _ own _ (λ m. order-listed d times n own own .0 m .1 refl) (loadsAt own d times t n) ∙ own-load own d times t n own l refl
+      trimmed-other _ own _ (λ m. order-listed d times n own own .0 m .1 refl) (loadsAt own d times t n)
+      ∙ own-load own d times t n own l refl
 
 -- ---- `pick_assignment`
 
@@ -234,7 +235,8 @@ module _ (n own quorum d : ℕ) (total : TotalShards) (size : ℕ) (peers : List
         let loads = loadsFor n own quorum d total faults times (p .time) in
         let l = pick-sound n own quorum d total size peers faults rows .0 (r .0) .replica in
         let k = own-load-for n own quorum d total faults times (p .time) l in
-        rw (r .1 .rows) (rows-full d total loads own (omega (arith, loads-for-length n own quorum d total faults times (p .time))) (omega arith))
+        let long = loads-for-length n own quorum d total faults times (p .time) in
+        rw (r .1 .rows) (rows-full d total loads own (omega arith) (omega arith))
 
     -- a quorum of different replicas answers by its time, and without any one listed set there are d different shards, each in the row of one of them outside it
     pub plan-survives : Many quorum (λ s. bit (answered p) s ≡ 1) × Survives n d (answered p) (rowIn (p .rows)) faults
@@ -346,7 +348,8 @@ module _ (n d : ℕ) where
         ext-getD 0 (rowsOf d total (replicate n d)) (replicate n (run 0 d)) (m ∙ long ∙ sym (length-replicate n (run 0 d)))
         (λ s l.
         let k : s < n = omega arith in
-        rows-full d total (replicate n d) s (omega arith) (omega (arith, getD-replicate n s d 0 k)) ∙ sym (getD-replicate n s (run 0 d) 0 k))
+        rows-full d total (replicate n d) s (omega arith) (omega (arith, getD-replicate n s d 0 k))
+        ∙ sym (getD-replicate n s (run 0 d) 0 k))
 
     copies-refused : (rows : ℕ) → copiesRefusal n d total rows ≡ rowsRefusal n d total (length (replicate n d)) rows
     unfolding copiesRefusal rowsRefusal
@@ -355,7 +358,9 @@ module _ (n d : ℕ) where
     -- the answer
     pub copies-layout : (rows : ℕ) → fullCopiesOf n d total rows ≡ layoutRowsOf n d total (replicate n d) rows
     unfolding fullCopiesOf layoutRowsOf
-    copies-layout rows = go (copiesRefusal n d total rows) refl ∙ ap (λ (k : ℕ). outcome k (widthOf d total (replicate n d))) (copies-refused rows)
+    copies-layout rows =
+        go (copiesRefusal n d total rows) refl
+        ∙ ap (λ (k : ℕ). outcome k (widthOf d total (replicate n d))) (copies-refused rows)
       where
         go : (k : ℕ) → copiesRefusal n d total rows ≡ k → outcome k (copiesWidth d total) ≡ outcome k (widthOf d total (replicate n d))
         go zero e = ap accepted (copies-width total (copies-sound n d total rows .0 e .shards))

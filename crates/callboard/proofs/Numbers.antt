@@ -56,7 +56,8 @@ joined : (j k l : ℕ) → j < 16 → isPast l ≡ true
 joined zero k l h p = rw p
 joined (suc j) k l h p = rw (ne-eqb (suc j) 0 (λ e. omega arith), lt-leb 16 (suc j) h)
 
-module _ (n own quorum d : ℕ) (total : TotalShards) (size : ℕ) (penalty : Float) (heard : ℕ) (models : List Float) (inflight faults : List ℕ) (rows : ℕ) where
+module _ (n own quorum d : ℕ) (total : TotalShards) (size : ℕ) (penalty : Float) (heard : ℕ) (models : List Float)
+    (inflight faults : List ℕ) (rows : ℕ) where
   abbrev typed : ℕ
   typed = pickRefusal n own quorum d total size (fromPeers heard models inflight) faults rows
 
@@ -67,7 +68,8 @@ module _ (n own quorum d : ℕ) (total : TotalShards) (size : ℕ) (penalty : Fl
   lists = firstOf (pickTableCases n faults rows)
 
   -- the number of the tables, or that of the entry
-  pub planned-number : otherwise (planTables typed n heard (length models) (length inflight)) typed ≡ firstOf (planCases n own quorum d total size heard models inflight faults rows)
+  pub planned-number : otherwise (planTables typed n heard (length models) (length inflight)) typed
+      ≡ firstOf (planCases n own quorum d total size heard models inflight faults rows)
   unfolding planTables
   planned-number =
       let e = entry-number n own quorum d total size penalty heard models inflight faults rows in
@@ -77,7 +79,8 @@ module _ (n own quorum d : ℕ) (total : TotalShards) (size : ℕ) (penalty : Fl
       ∙ sym (plan-number n own quorum d total size penalty heard models inflight faults rows)
 
 -- ---- the policy
-module _ (n f own d w majority size adaptive balanced : ℕ) (models : List Float) (inflight : List ℕ) (alive : ℕ) (initial table : List ℕ) (rows : ℕ) where
+module _ (n f own d w majority size adaptive balanced : ℕ) (models : List Float) (inflight : List ℕ) (alive : ℕ)
+    (initial table : List ℕ) (rows : ℕ) where
   lent-is : (a b c : Bool) → cond (not a) TABLE (cond (not b) TABLE (cond (not c) TABLE 0)) ≡ cond (a && (b && c)) 0 TABLE
   lent-is false b c = refl
   lent-is true false c = refl
@@ -92,8 +95,13 @@ module _ (n f own d w majority size adaptive balanced : ℕ) (models : List Floa
 
   -- the choice of the entry, if the tables fit
   pub policy-in-is : policyIn n f own d w majority size adaptive balanced models inflight alive initial table rows
-      ≡ fittingOf (policyTables n (length models) (length inflight) rows) (policyOf n f own d w majority size (fromInFlight inflight) (fromModels models) alive initial table (isSet adaptive) (isSet balanced))
+      ≡ fittingOf (policyTables n (length models) (length inflight) rows)
+      (policyOf n f own d w majority size (fromInFlight inflight) (fromModels models) alive initial table (isSet adaptive) (isSet balanced))
   unfolding policyIn policyOf
   policy-in-is =
-      rw (choice-number n f own d w majority size adaptive balanced models inflight alive initial table rows, lent-is (isRecords (length models) 3 n) (eqb (length inflight) n) (eqb rows n))
-      (fitted (policyRefusal n f own d w majority size (fromInFlight inflight) alive initial table) (policyTables n (length models) (length inflight) rows) _)
+      let k = policyRefusal n f own d w majority size (fromInFlight inflight) alive initial table in
+      rw (
+        choice-number n f own d w majority size adaptive balanced models inflight alive initial table rows,
+        lent-is (isRecords (length models) 3 n) (eqb (length inflight) n) (eqb rows n),
+      )
+      (fitted k (policyTables n (length models) (length inflight) rows) _)

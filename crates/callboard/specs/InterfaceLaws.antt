@@ -24,7 +24,8 @@ neither zero k = (λ e. (refl, e), λ h. h .1)
 neither (suc j) k = (λ e. absurd (omega arith), λ h. absurd (omega arith))
 
 -- ---- plans
-module _ (n own quorum d : ℕ) (total : TotalShards) (size : ℕ) (penalty : Float) (heard : ℕ) (models : List Float) (inflight faults : List ℕ) (rows : ℕ) where
+module _ (n own quorum d : ℕ) (total : TotalShards) (size : ℕ) (penalty : Float) (heard : ℕ) (models : List Float)
+    (inflight faults : List ℕ) (rows : ℕ) where
   -- the numbers of the three lists
   abbrev pub inputs : ℕ
   inputs = firstOf (pickInputCases n own quorum d total size (fromPeers heard models inflight))
@@ -35,9 +36,11 @@ module _ (n own quorum d : ℕ) (total : TotalShards) (size : ℕ) (penalty : Fl
   abbrev pub lists : ℕ
   lists = firstOf (pickTableCases n faults rows)
 
-  pub plan-number : firstOf (planCases n own quorum d total size heard models inflight faults rows) ≡ otherwise inputs (otherwise tables lists)
+  pub plan-number : firstOf (planCases n own quorum d total size heard models inflight faults rows)
+      ≡ otherwise inputs (otherwise tables lists)
   plan-number =
-      first-then (pickInputCases n own quorum d total size (fromPeers heard models inflight)) (heardCases n heard (length models) (length inflight) ++ pickTableCases n faults rows) refl
+      first-then (pickInputCases n own quorum d total size (fromPeers heard models inflight))
+      (heardCases n heard (length models) (length inflight) ++ pickTableCases n faults rows) refl
       ∙ ap (otherwise inputs) (first-then (heardCases n heard (length models) (length inflight)) (pickTableCases n faults rows) refl)
 
   pub entry-number : pickRefusal n own quorum d total size (fromPeers heard models inflight) faults rows ≡ otherwise inputs lists
@@ -51,8 +54,11 @@ module _ (n own quorum d : ℕ) (total : TotalShards) (size : ℕ) (penalty : Fl
   heard-means : (tables ≡ 0) ↔ Heard
   heard-means = (
     λ e.
-        let h = none-holds (heardCases n heard (length models) (length inflight)) refl .0 e in
-        (ltb-true heard (2 ^ n) (not-false _ (h .0)), eqb-true (length models) (n * 4) (not-false _ (h .1 .0)), eqb-true (length inflight) n (not-false _ (h .1 .1 .0))),
+        let h = none-holds (heardCases n heard (length models) (length inflight)) refl .0 e in (
+          ltb-true heard (2 ^ n) (not-false _ (h .0)),
+          eqb-true (length models) (n * 4) (not-false _ (h .1 .0)),
+          eqb-true (length inflight) n (not-false _ (h .1 .1 .0)),
+        ),
     λ h. simp (lt-ltb heard (2 ^ n) (h .0), eq-eqb (length models) (n * 4) (h .1), eq-eqb (length inflight) n (h .2)),
   )
 
@@ -60,18 +66,25 @@ module _ (n own quorum d : ℕ) (total : TotalShards) (size : ℕ) (penalty : Fl
   entry = pickOf n own quorum d total size (fromPeers heard models inflight) penalty faults rows
 
   -- accepted is what the entry accepts, of tables that fit
-  pub pick-in-means : (o : Option Plan) → (pickIn n own quorum d total size penalty heard models inflight faults rows ≡ accepted o) ↔ (Heard × (entry ≡ accepted o))
+  pub pick-in-means : (o : Option Plan)
+      → (pickIn n own quorum d total size penalty heard models inflight faults rows ≡ accepted o) ↔ (Heard × (entry ≡ accepted o))
   unfolding pickIn pickOf
   pick-in-means o =
       let m = checked-means (firstOf (planCases n own quorum d total size heard models inflight faults rows)) entry o in (
-        λ e. let h = m .0 e in (heard-means .0 (neither tables lists .0 (neither inputs (otherwise tables lists) .0 (sym plan-number ∙ h .0) .1) .0), h .1),
+        λ e.
+            let h = m .0 e in
+            let z = neither inputs (otherwise tables lists) .0 (sym plan-number ∙ h .0) .1 in
+            (heard-means .0 (neither tables lists .0 z .0), h .1),
         λ h.
-            let z = neither inputs lists .0 (sym entry-number ∙ checked-means (pickRefusal n own quorum d total size (fromPeers heard models inflight) faults rows) _ o .0 (h .1) .0) in
-            m .1 (plan-number ∙ neither inputs (otherwise tables lists) .1 (z .0, neither tables lists .1 (heard-means .1 (h .0), z .1)), h .1),
+            let k = pickRefusal n own quorum d total size (fromPeers heard models inflight) faults rows in
+            let z = neither inputs lists .0 (sym entry-number ∙ checked-means k _ o .0 (h .1) .0) in
+            let t = neither tables lists .1 (heard-means .1 (h .0), z .1) in
+            m .1 (plan-number ∙ neither inputs (otherwise tables lists) .1 (z .0, t), h .1),
       )
 
 -- ---- the policy
-module _ (n f own d w majority size adaptive balanced : ℕ) (models : List Float) (inflight : List ℕ) (alive : ℕ) (initial table : List ℕ) (rows : ℕ) where
+module _ (n f own d w majority size adaptive balanced : ℕ) (models : List Float) (inflight : List ℕ) (alive : ℕ)
+    (initial table : List ℕ) (rows : ℕ) where
   abbrev pub number : ℕ
   number = policyRefusal n f own d w majority size (fromInFlight inflight) alive initial table
 
@@ -80,7 +93,9 @@ module _ (n f own d w majority size adaptive balanced : ℕ) (models : List Floa
 
   pub choice-number : firstOf (choiceCases n f own d w majority size models inflight alive initial table rows) ≡ otherwise number lent
   unfolding policyRefusal
-  choice-number = first-then (policyCases n f own d w majority size (fromInFlight inflight) alive initial table) (lentCases n (length models) (length inflight) rows) refl
+  choice-number =
+      first-then (policyCases n f own d w majority size (fromInFlight inflight) alive initial table)
+      (lentCases n (length models) (length inflight) rows) refl
 
   -- the tables have three floats and a word for each replica, and a row
   abbrev pub Lent : Type 0
@@ -89,17 +104,22 @@ module _ (n f own d w majority size adaptive balanced : ℕ) (models : List Floa
   lent-means : (lent ≡ 0) ↔ Lent
   lent-means = (
     λ e.
-        let h = none-holds (lentCases n (length models) (length inflight) rows) refl .0 e in
-        (eqb-true (length models) (n * 3) (not-false _ (h .0)), eqb-true (length inflight) n (not-false _ (h .1 .0)), eqb-true rows n (not-false _ (h .1 .1 .0))),
+        let h = none-holds (lentCases n (length models) (length inflight) rows) refl .0 e in (
+          eqb-true (length models) (n * 3) (not-false _ (h .0)),
+          eqb-true (length inflight) n (not-false _ (h .1 .0)),
+          eqb-true rows n (not-false _ (h .1 .1 .0)),
+        ),
     λ h. simp (eq-eqb (length models) (n * 3) (h .0), eq-eqb (length inflight) n (h .1), eq-eqb rows n (h .2)),
   )
 
   abbrev choice : Outcome (Option ℕ)
-  choice = policyOf n f own d w majority size (fromInFlight inflight) (fromModels models) alive initial table (isSet adaptive) (isSet balanced)
+  choice =
+      policyOf n f own d w majority size (fromInFlight inflight) (fromModels models) alive initial table (isSet adaptive) (isSet balanced)
 
   -- accepted is what the entry accepts, of tables that fit
   pub policy-in-means : (o : Option ℕ)
-      → (policyIn n f own d w majority size adaptive balanced models inflight alive initial table rows ≡ accepted o) ↔ (Lent × (choice ≡ accepted o))
+      → (policyIn n f own d w majority size adaptive balanced models inflight alive initial table rows ≡ accepted o)
+      ↔ (Lent × (choice ≡ accepted o))
   unfolding policyIn policyOf
   policy-in-means o =
       let m = checked-means (firstOf (choiceCases n f own d w majority size models inflight alive initial table rows)) choice o in (

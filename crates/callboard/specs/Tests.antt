@@ -1,4 +1,5 @@
--- What the tests of the tables return: contracts of private functions alone speak of them, and `planCases` and `choiceCases` say what refuses. Assumes nothing.
+-- What the tests of the tables return: contracts of private functions alone speak of them. `planCases` and `choiceCases` say what refuses.
+-- Assumes nothing.
 use mathlib.Core.Bool.{Bool, true, false, _&&_, _||_}
 use mathlib.Core.List.{_∷_}
 use mathlib.Core.Option.{Option}

@@ -185,7 +185,8 @@ module _ (d : ℕ) (total : TotalShards) (us vs : List ℕ) (k : ℕ) (full : d 
       )
 
   -- and of those after it
-  pub rows-after : (i : ℕ) → i < length vs → rowIn (rowsOf d total (us ++ (k ∷ vs))) (length us + suc i) ≡ rowIn (rowsOf d total (us ++ vs)) (length us + i)
+  pub rows-after : (i : ℕ) → i < length vs
+      → rowIn (rowsOf d total (us ++ (k ∷ vs))) (length us + suc i) ≡ rowIn (rowsOf d total (us ++ vs)) (length us + i)
   rows-after i l =
       rw (
         row-at d total (us ++ (k ∷ vs)) (length us + suc i) (omega (arith, length-append us (k ∷ vs))),

@@ -1,5 +1,6 @@
--- Checks run in rising order of number: one statement over every entry that has a list of cases, and all its inputs, and over the C interface where that
--- has cases of its own. Inside a text another order holds (`first-fault` in crates/numerals), so the two texts are not here. Assumes nothing.
+-- Checks run in rising order of number: one statement over every entry that has a list of cases, and all its inputs, and over the C
+-- interface where that has cases of its own. Inside a text another order holds (`first-fault` in crates/numerals), so the two texts are not
+-- here. Assumes nothing.
 use mathlib.Core.Path.{_≡_, refl}
 use mathlib.Core.Bool.{Bool, true, _&&_}
 use mathlib.Core.List.{List, [], _∷_, _++_, map}
@@ -39,7 +40,8 @@ pub data Call : Type 0 where
   opening : (n quorum d w : ℕ) → Call
   reply : (t : Tally) (r : Reply) → Call
   pickInC : (n own quorum d : ℕ) (total : TotalShards) (size heard : ℕ) (models : List Float) (inflight faults : List ℕ) (rows : ℕ) → Call
-  policyInC : (n f own d w majority size : ℕ) (models : List Float) (inflight : List ℕ) (alive : ℕ) (initial table : List ℕ) (rows : ℕ) → Call
+  policyInC : (n f own d w majority size : ℕ) (models : List Float) (inflight : List ℕ) (alive : ℕ) (initial table : List ℕ) (rows : ℕ)
+      → Call
 
 -- its cases, in the order of their tests
 abbrev pub casesOf : Call → List Case
@@ -56,8 +58,10 @@ casesOf (policy n f own d w majority size inflight alive initial table) = policy
 casesOf (gossip n own source d w available rows alive room) = gossipCases n own source d w available rows alive room
 casesOf (opening n quorum d w) = openCases n quorum d w
 casesOf (reply t r) = replyCases t r
-casesOf (pickInC n own quorum d total size heard models inflight faults rows) = planCases n own quorum d total size heard models inflight faults rows
-casesOf (policyInC n f own d w majority size models inflight alive initial table rows) = choiceCases n f own d w majority size models inflight alive initial table rows
+casesOf (pickInC n own quorum d total size heard models inflight faults rows) =
+    planCases n own quorum d total size heard models inflight faults rows
+casesOf (policyInC n f own d w majority size models inflight alive initial table rows) =
+    choiceCases n f own d w majority size models inflight alive initial table rows
 
 -- no number of the list is below the one before it
 abbrev pub rising : List ℕ → Bool
