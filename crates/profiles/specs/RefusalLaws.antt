@@ -50,13 +50,13 @@ module _ {A : Type 0} (p : A → Bool) (d : A) (past : p d ≡ true) where
 
 -- ---- a profile of n replicas
 module _ (n : ℕ) (p : Profile) where
-  -- a probability for each replica, from 0 to 1, and a threshold above 0 and at most 1
+  -- a probability for each replica, from 0 to 1, and a threshold above 0 and at most 1; a word that the list lacks counts as 0
   pub record Chances : Type 0 where
     pub count : p .«prob_count» ≡ n
     pub each-probability : (i : ℕ) → i < n → FromZeroToOne (getD (p .probs) i plusZero)
     pub threshold : AboveZeroToOne (p .threshold)
 
-  -- no domain has a replica at or above n, there are such chances or none, and at most 64 domains
+  -- no counted domain has a replica at or above n, there are such chances or no probabilities, and at most 64 domains are counted
   pub record Sound : Type 0 where
     pub each-domain : (i : ℕ) → i < p .«domain_count» → (s : ℕ) → n ≤ s → bit (getD (p .domains) i 0) s ≡ 0
     pub chances : (p .«prob_count» ≡ 0 → ⊥) → Chances
