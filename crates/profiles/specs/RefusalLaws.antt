@@ -1,4 +1,4 @@
--- What an input is that is not refused: each check, said in numbers. Assumes nothing.
+-- What an input is that is not refused: each check in numbers. Assumes nothing.
 use mathlib.Core.Path.{_≡_, refl}
 use mathlib.Core.Logic.{_↔_}
 use mathlib.Core.Bool.{Bool, true, false, not, _&&_, _||_, and-eq-true-iff}
@@ -31,7 +31,7 @@ threshold-means t = (
   λ h. and-eq-true-iff (lt plusZero t) (le t one) .1 (above-zero-means t .1 h),
 )
 
--- ---- the first k of a list, where d stands for those that it lacks and passes the test
+-- ---- the first k of a list; d, which passes the test, takes the place of those that the list lacks
 module _ {A : Type 0} (p : A → Bool) (d : A) (past : p d ≡ true) where
   forth : (k : ℕ) (xs : List A) → all p (take k xs) ≡ true → (i : ℕ) → i < k → p (getD xs i d) ≡ true
   forth zero xs e i h = absurd (not-suc-le-zero h)
