@@ -61,7 +61,7 @@ value-finite w e h =
 
 -- ---- its sign
 
--- a - stands at its start: its first byte is 45
+-- it begins with -: its first byte is 45
 minus-means : (s : List ℕ) → (isNegative s ≡ true) ↔ (getD s 0 0 ≡ 45)
 unfolding isNegative
 minus-means [] = (λ e. absurd (true≢false (sym e)), λ h. absurd (omega arith))

@@ -1,4 +1,4 @@
--- What an input of `fault_list` is that is not refused: each check, said in numbers. Assumes nothing.
+-- What an input of `fault_list` is that is not refused: each check in numbers. Assumes nothing.
 use mathlib.Core.Path.{_≡_, refl}
 use mathlib.Core.Logic.{_↔_}
 use mathlib.Core.Bool.{false}

@@ -1,4 +1,4 @@
--- What a text is that is read, and with which numbers one is refused: each check, said in numbers. Assumes nothing.
+-- What a text is that is read, and with which numbers one is refused: each check in numbers. Assumes nothing.
 use mathlib.Core.Path.{_≡_, refl, sym, ap, _∙_}
 use mathlib.Core.Logic.{_↔_}
 use mathlib.Core.Bool.{Bool, true, false, cond, _&&_, _||_, true≢false}
@@ -26,7 +26,7 @@ use Rattle.profile_text.specs.ProfileText.{domainIn, domainsIn, decimalI
 use Rattle.profile_text.specs.ProfileText.{namedIn, mechanismIn, mechanismsOf, profileOf}
 use Rattle.profile_text.specs.ProfileTextLaws.{accepted-fits}
 
--- ---- the numbers that refuse what stands in a text
+-- ---- the numbers of the faults in a text
 
 -- the number of a fault in a text, if it has one, is from 7 to 12
 abbrev pub FaultsOnly : {A : Type 0} → Outcome A → Type 0

@@ -1,4 +1,4 @@
--- What an input is that is not refused: each check, said in numbers. Assumes nothing.
+-- What an input is that is not refused: each check in numbers. Assumes nothing.
 use mathlib.Core.Path.{_≡_, refl}
 use mathlib.Core.Logic.{_↔_}
 use mathlib.Core.Bool.{Bool, true, false, not, _&&_, _||_, and-eq-true-iff}
@@ -31,7 +31,7 @@ threshold-means t = (
   λ h. and-eq-true-iff (lt plusZero t) (le t one) .1 (above-zero-means t .1 h),
 )
 
--- ---- the first k of a list, where d stands for those that it lacks and passes the test
+-- ---- the first k of a list; d, which passes the test, takes the place of those that the list lacks
 module _ {A : Type 0} (p : A → Bool) (d : A) (past : p d ≡ true) where
   forth : (k : ℕ) (xs : List A) → all p (take k xs) ≡ true → (i : ℕ) → i < k → p (getD xs i d) ≡ true
   forth zero xs e i h = absurd (not-suc-le-zero h)
@@ -50,13 +50,13 @@ module _ {A : Type 0} (p : A → Bool) (d : A) (past : p d ≡ true) where
 
 -- ---- a profile of n replicas
 module _ (n : ℕ) (p : Profile) where
-  -- a probability for each replica, from 0 to 1, and a threshold above 0 and at most 1
+  -- a probability for each replica, from 0 to 1, and a threshold above 0 and at most 1; a word that the list lacks counts as 0
   pub record Chances : Type 0 where
     pub count : p .«prob_count» ≡ n
     pub each-probability : (i : ℕ) → i < n → FromZeroToOne (getD (p .probs) i plusZero)
     pub threshold : AboveZeroToOne (p .threshold)
 
-  -- no domain has a replica at or above n, there are such chances or none, and at most 64 domains
+  -- no counted domain has a replica at or above n, there are such chances or no probabilities, and at most 64 domains are counted
   pub record Sound : Type 0 where
     pub each-domain : (i : ℕ) → i < p .«domain_count» → (s : ℕ) → n ≤ s → bit (getD (p .domains) i 0) s ≡ 0
     pub chances : (p .«prob_count» ≡ 0 → ⊥) → Chances
