@@ -63,6 +63,24 @@ refused-leaves t r = go (replyRefusal t r) (saidOf t r) (cond (t .committed) t (
     go zero said u e = absurd (true≢false e)
     go (suc k) said u e = refl
 
+-- ---- the rows after a reply
+module _ (t : Tally) (source row : ℕ) where
+  -- a first reply replaces what the row held, whatever that was
+  pub first-replaces : source < length (t .rows) → hasBit (t .heard) source ≡ false → rowIn (noted t source row .rows) source ≡ row
+  unfolding noted
+  first-replaces l e = getD-set-same (t .rows) source _ 0 l ∙ rw e
+
+  -- a later one is united with it
+  pub later-unites : source < length (t .rows) → hasBit (t .heard) source ≡ true
+      → rowIn (noted t source row .rows) source ≡ bitOr (rowIn (t .rows) source) row
+  unfolding noted
+  later-unites l e = getD-set-same (t .rows) source _ 0 l ∙ rw e
+
+  -- no other row changes
+  pub others-stay : (s : ℕ) → (s ≡ source → ⊥) → rowIn (noted t source row .rows) s ≡ rowIn (t .rows) s
+  unfolding noted
+  others-stay s h = getD-set-other (t .rows) source s _ 0 h
+
 -- ---- what is answered
 
 -- the last unrefused reply is answered what the tally says after them all
