@@ -74,7 +74,7 @@ same-value (fin false m e) (fin false n d) a c C f g h k =
     cross : (x p y q a c : ℕ) → 0 < c → x * c ≡ a * p → y * c ≡ a * q → x * q ≡ y * p
     cross x p y q a c C h k = eq-of-mul-eq-mul-right c C (x * q) (y * p) (mul-right-comm x q c ∙ ap (λ (z : ℕ). z * q) h ∙ mul-right-comm a p q ∙ ap (λ (z : ℕ). z * p) (sym k) ∙ mul-right-comm y c p)
 
-own-is : (m : ℕ) (e : ℤ) → T (fits binary64 (fin false (suc m) e)) → round binary64 false (suc m * up e) (down e) ≡ fin false (suc m) e
+pub own-is : (m : ℕ) (e : ℤ) → T (fits binary64 (fin false (suc m) e)) → round binary64 false (suc m * up e) (down e) ≡ fin false (suc m) e
 own-is m e t =
     let q = fits-small false m e t in
     same-value (round binary64 false (suc m * up e) (down e)) (fin false (suc m) e) (suc m * up e) (down e) (down-pos e) (round-fits binary64 false (suc m * up e) (down e)) t
@@ -164,7 +164,7 @@ never-raises-T (fin true (suc m) e) (fin t (suc n) d) f w h k l = absurd (not-ze
 never-raises-T (fin false (suc m) e) (fin true (suc n) d) f w h k l = absurd (not-zero n (nonneg true (suc n) d k refl))
 never-raises-T (fin false (suc m) e) (fin false (suc n) d) f w h k l = shrink-positive m e n d f l
 
-round-zero : round binary64 false 0 1 ≡ fin false 0 (pos 0)
+pub round-zero : round binary64 false 0 1 ≡ fin false 0 (pos 0)
 unfolding round
 round-zero = refl
 

@@ -1,3 +1,4 @@
 -- Predicted reply times.
 pub mod Times
 pub mod TimeLaws
+pub mod TermLaws
