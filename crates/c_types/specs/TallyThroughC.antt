@@ -1,8 +1,8 @@
 -- Demand 3 (quoted in crates/tally/specs/Demand.antt) for a caller in C, in the words that C sees: the structs that `callboard_tally_open`
 -- and `callboard_accept_reply` return, and the tally that the latter leaves in the caller's memory.
 --
--- The laws below hold of these two functions because their contracts equate: the first returns toOpening (openingOf n quorum d w ballot high
--- low); the second returns answerThrough t r and leaves leftThrough t r, where t is the tally before the call and r is the reply with its
+-- The laws below hold of these two functions because their contracts equate: the first returns toOpening (openingOf n quorum d w ballot
+-- high low); the second returns answerThrough t r and leaves leftThrough t r, where t is the tally before the call and r is the reply with its
 -- fault list. A reply is refused if `refusal` is not 0; otherwise it is answered committed if `status` is not 0. The premises are those of
 -- the demand: the opening was not refused, every unrefused reply was lent the same fault list, each call is handed the tally as the one
 -- before it left it, and nothing else writes it. Assumes nothing.
