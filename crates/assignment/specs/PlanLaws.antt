@@ -26,7 +26,7 @@ use Rattle.refusals.specs.Numbers.{TRIMMED}
 use Rattle.refusals.specs.FirstLaws.{none-holds}
 use Rattle.refusals.specs.Limits.{isRow}
 use Rattle.refusals.specs.LimitLaws.{AreRows, population-means, shards-means, quorum-means, fault-list-means, peers-fit-means}
-use Rattle.refusals.specs.Outcome.{Outcome, refused, accepted, outcome, written}
+use Rattle.refusals.specs.Outcome.{Outcome, refused, accepted, outcome}
 use Rattle.refusals.specs.OutcomeLaws.{checked-means, accepted-means}
 use Rattle.coverage.specs.Coverage.{coversOf}
 use Rattle.coverage.specs.CoverageLaws.{Survives, commits-means, covers-means}
@@ -39,7 +39,6 @@ use Rattle.layout.specs.LayoutLaws.{partial-without, width-exactly, width-at-mo
 use Rattle.times.specs.declared.PeerRecord.{PeerRecord}
 use Rattle.times.specs.Times.{shardLength, timesOf, PeersInBounds}
 use Rattle.times.specs.TimeLaws.{times-fit}
-use Rattle.trimming.specs.Order.{trimOrder}
 use Rattle.trimming.specs.OrderLaws.{order-listed}
 use Rattle.trimming.specs.TrimmingLaws.{trimmed-length, trimmed-other}
 use Rattle.candidates.specs.Search.{candidates, answeredAt, loadsAt, commitsAt, firstTime}

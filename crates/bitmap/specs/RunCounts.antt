@@ -1,14 +1,14 @@
 -- How many members a mask has that is put together of different ones, and so a run. Assumes nothing.
 use mathlib.Core.Path.{_≡_, sym, ap, _∙_}
-use Prim.Native.Nat.{ℕ, zero, suc, _+_, _-_, _%_, _≤_, _<_}
+use Prim.Native.Nat.{ℕ, zero, suc, _+_, _-_, _%_, _^_, _≤_, _<_}
 use native.Mathlib.Nat.{le-refl, mod-lt, mod-eq-of-lt, mod-add-mod, add-mod-left}
 use native.Mathlib.Decide.{decLt, ℕ-discrete}
 use native.Mathlib.Omega.{arith}
-use Rattle.bitmap.specs.Mask.{bit, count, gather, run, runModulo}
-use Rattle.bitmap.specs.MaskLaws.{bit-lt}
-use Rattle.bitmap.specs.CountLaws.{count-none}
+use Rattle.bitmap.specs.Mask.{allBelow, bit, count, gather, run, runModulo}
+use Rattle.bitmap.specs.MaskLaws.{bit-lt, below-bit, full-bit}
+use Rattle.bitmap.specs.CountLaws.{count-none, count-within}
 use Rattle.bitmap.specs.Members.{count-with}
-use Rattle.bitmap.specs.RunLaws.{gather-means}
+use Rattle.bitmap.specs.RunLaws.{gather-means, run-all}
 
 module _ (f : ℕ → ℕ) where
   -- no two of the first k are the same
@@ -43,3 +43,23 @@ pub run-modulo-count : (w a k : ℕ) → k ≤ w → count (runModulo w a k) ≡
 run-modulo-count w a k h =
     gather-count (λ (i : ℕ). (a + i) % w) k
     (λ i j l g e. apart w (a + i) (j - i) (omega arith) (omega arith) (e ∙ ap (λ (x : ℕ). x % w) (omega arith)))
+
+-- ---- masks of n numbers
+
+-- the members of a mask below 2 ^ n are below n, and at most n
+pub member-below : (n c a : ℕ) → c < 2 ^ n → bit c a ≡ 1 → a < n
+member-below n c a below here = go (decLt a n)
+  where
+    go : Dec (a < n) → a < n
+    go (yes l) = l
+    go (no l) = absurd (omega (arith, below-bit n c a below (omega arith)))
+
+pub all-count : (n : ℕ) → count (allBelow n) ≡ n
+all-count n = ap count (sym (run-all n)) ∙ run-count 0 n
+
+pub count-below : (n c : ℕ) → c < 2 ^ n → count c ≤ n
+count-below n c below = omega (arith, count-within c (allBelow n) (λ s. go s (decLt s n)), all-count n)
+  where
+    go : (s : ℕ) → Dec (s < n) → bit c s ≤ bit (allBelow n) s
+    go s (yes l) = omega (arith, bit-lt c s, full-bit n s l)
+    go s (no l) = omega (arith, below-bit n c s below (omega arith))

@@ -7,7 +7,7 @@ use lib.Ieee.{Float}
 use lib.ListN.{length}
 use Rattle.refusals.specs.First.{firstOf}
 use Rattle.refusals.specs.FirstLaws.{otherwise}
-use Rattle.refusals.specs.Outcome.{Outcome, refused, checked}
+use Rattle.refusals.specs.Outcome.{Outcome, refused}
 use Rattle.refusals.proofs.Outcomes.{is-checked}
 use Rattle.layout.specs.declared.TotalShards.{TotalShards}
 use Rattle.layout_text.specs.declared.Init.{Init}

@@ -20,7 +20,7 @@ use Rattle.assignment.specs.Plans.{pickInputCases, pickTableCases, pickRefusal}
 use Rattle.adaptive.specs.Policy.{policyRefusal, policyOf}
 use Rattle.c_types.specs.CTypes.{isSet}
 use Rattle.c_types.specs.Tables.{isRecords, fromPeers, fromModels, fromInFlight}
-use Rattle.callboard.specs.Interface.{heardCases, planCases, lentCases, policyIn}
+use Rattle.callboard.specs.Interface.{heardCases, planCases, policyIn}
 use Rattle.callboard.specs.InterfaceLaws.{plan-number, entry-number, choice-number}
 use Rattle.callboard.specs.Tests.{isPast, planTables, policyTables, fittingOf}
 

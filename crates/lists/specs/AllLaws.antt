@@ -5,7 +5,7 @@ use mathlib.Core.Bool.{Bool, true, false, _||_, and-eq-true-iff, true≢false}
 use mathlib.Core.List.{List, [], _∷_, _++_, List·Memᴰ, List·Memᴰ·head, List·Memᴰ·tail, List·Memᴰ·not-nil, List·Memᴰ·cases-cons}
 use Prim.Native.Nat.{ℕ, zero, suc, _<_, suc-le-suc}
 use native.Mathlib.Nat.{zero-lt-suc, not-suc-le-zero, le-of-suc-le-suc}
-use lib.ListN.{length, getD}
+use lib.ListN.{length, getD, take}
 use Rattle.lists.specs.All.{all, any, AllOf}
 
 module _ {A : Type 0} (p : A → Bool) (d : A) where
@@ -24,6 +24,23 @@ module _ {A : Type 0} (p : A → Bool) (d : A) where
 
   pub all-means : (xs : List A) → (all p xs ≡ true) ↔ Each xs
   all-means xs = (forth xs, back xs)
+
+  -- the first k pass; d, which passes, takes the place of those that the list lacks
+  module _ (past : p d ≡ true) where
+    taken-forth : (k : ℕ) (xs : List A) → all p (take k xs) ≡ true → (i : ℕ) → i < k → p (getD xs i d) ≡ true
+    taken-forth zero xs e i h = absurd (not-suc-le-zero h)
+    taken-forth (suc k) [] e i h = past
+    taken-forth (suc k) (x ∷ xs) e zero h = and-eq-true-iff (p x) (all p (take k xs)) .0 e .0
+    taken-forth (suc k) (x ∷ xs) e (suc i) h = taken-forth k xs (and-eq-true-iff (p x) (all p (take k xs)) .0 e .1) i (le-of-suc-le-suc h)
+
+    taken-back : (k : ℕ) (xs : List A) → ((i : ℕ) → i < k → p (getD xs i d) ≡ true) → all p (take k xs) ≡ true
+    taken-back zero xs h = refl
+    taken-back (suc k) [] h = refl
+    taken-back (suc k) (x ∷ xs) h =
+        and-eq-true-iff (p x) (all p (take k xs)) .1 (h zero (zero-lt-suc k), taken-back k xs (λ i l. h (suc i) (suc-le-suc l)))
+
+    pub all-taken-means : (k : ℕ) (xs : List A) → (all p (take k xs) ≡ true) ↔ ((i : ℕ) → i < k → p (getD xs i d) ≡ true)
+    all-taken-means k xs = (taken-forth k xs, taken-back k xs)
 
   -- some element passes, and at which place
   pub record Somewhere (xs : List A) : Type 0 where

@@ -2,15 +2,14 @@
 use mathlib.Core.Path.{_≡_, refl}
 use mathlib.Core.Logic.{_↔_}
 use mathlib.Core.Bool.{Bool, true, false, not, _&&_, _||_, and-eq-true-iff}
-use mathlib.Core.List.{List, [], _∷_}
-use Prim.Native.Nat.{ℕ, zero, suc, _≤_, _<_}
-use native.Mathlib.Nat.{not-suc-le-zero, zero-lt-suc, le-of-suc-le-suc}
+use Prim.Native.Nat.{ℕ, _≤_, _<_}
 use native.Mathlib.Omega.{arith}
 use lib.Dec.{eqb}
 use lib.Ieee.{Float, le, lt}
-use lib.ListN.{take, getD}
+use lib.ListN.{getD}
 use borrow.Author.Tests.{eqb-true, eq-eqb, eqb-false, ne-eqb, leb-true, le-leb, ltb-true, lt-ltb, not-false}
 use Rattle.lists.specs.All.{all}
+use Rattle.lists.specs.AllLaws.{all-taken-means}
 use Rattle.bitmap.specs.Mask.{bit}
 use Rattle.bitmap.specs.MaskLaws.{below-means, bit-none}
 use Rattle.refusals.specs.FirstLaws.{none-holds}
@@ -31,23 +30,6 @@ threshold-means t = (
   λ h. and-eq-true-iff (lt plusZero t) (le t one) .1 (above-zero-means t .1 h),
 )
 
--- ---- the first k of a list; d, which passes the test, takes the place of those that the list lacks
-module _ {A : Type 0} (p : A → Bool) (d : A) (past : p d ≡ true) where
-  forth : (k : ℕ) (xs : List A) → all p (take k xs) ≡ true → (i : ℕ) → i < k → p (getD xs i d) ≡ true
-  forth zero xs e i h = absurd (not-suc-le-zero h)
-  forth (suc k) [] e i h = past
-  forth (suc k) (x ∷ xs) e zero h = and-eq-true-iff (p x) (all p (take k xs)) .0 e .0
-  forth (suc k) (x ∷ xs) e (suc i) h = forth k xs (and-eq-true-iff (p x) (all p (take k xs)) .0 e .1) i (le-of-suc-le-suc h)
-
-  back : (k : ℕ) (xs : List A) → ((i : ℕ) → i < k → p (getD xs i d) ≡ true) → all p (take k xs) ≡ true
-  back zero xs h = refl
-  back (suc k) [] h = refl
-  back (suc k) (x ∷ xs) h =
-      and-eq-true-iff (p x) (all p (take k xs)) .1 (h zero (zero-lt-suc k), back k xs (λ i l. h (suc i) (omega arith)))
-
-  taken-means : (k : ℕ) (xs : List A) → (all p (take k xs) ≡ true) ↔ ((i : ℕ) → i < k → p (getD xs i d) ≡ true)
-  taken-means k xs = (forth k xs, back k xs)
-
 -- ---- a profile of n replicas
 module _ (n : ℕ) (p : Profile) where
   -- a probability for each replica, from 0 to 1, and a threshold above 0 and at most 1; a word that the list lacks counts as 0
@@ -65,7 +47,7 @@ module _ (n : ℕ) (p : Profile) where
   domains-means : (domainsFit n p ≡ true) ↔ ((i : ℕ) → i < p .«domain_count» → (s : ℕ) → n ≤ s → bit (getD (p .domains) i 0) s ≡ 0)
   unfolding domainsFit
   domains-means =
-      let t = taken-means (isMask n) 0 (below-means n 0 .1 (λ s h. bit-none s)) (p .«domain_count») (p .domains) in (
+      let t = all-taken-means (isMask n) 0 (below-means n 0 .1 (λ s h. bit-none s)) (p .«domain_count») (p .domains) in (
         λ e i h. below-means n (getD (p .domains) i 0) .0 (t .0 e i h),
         λ h. t .1 (λ i l. below-means n (getD (p .domains) i 0) .1 (h i l)),
       )
@@ -74,7 +56,7 @@ module _ (n : ℕ) (p : Profile) where
   tests = all isProbability (probsOf n p) && isThreshold (p .threshold)
 
   abbrev each : (all isProbability (probsOf n p) ≡ true) ↔ ((i : ℕ) → i < n → isProbability (getD (p .probs) i plusZero) ≡ true)
-  each = taken-means isProbability plusZero (probability-means plusZero .1 (omega arith)) n (p .probs)
+  each = all-taken-means isProbability plusZero (probability-means plusZero .1 (omega arith)) n (p .probs)
 
   chances-means : ((eqb (p .«prob_count») n && tests) ≡ true) ↔ Chances
   chances-means = (

@@ -13,10 +13,10 @@ use Rattle.lists.specs.AllLaws.{all-of-means}
 use Rattle.bitmap.specs.Mask.{bit, count, gather, run, runModulo}
 use Rattle.bitmap.specs.Members.{Many, count-means, many-map}
 use Rattle.bitmap.specs.RunLaws.{Among, gather-means}
-use Rattle.bitmap.specs.RunCounts.{Different, gather-count, run-count}
+use Rattle.bitmap.specs.RunCounts.{Different, gather-count, run-count, member-below, count-below}
 use Rattle.steps.specs.Steps.{stepShards, stepQuorum}
 use Rattle.steps.specs.StepLaws.{shares-whole, shares-positive}
-use Rattle.steps.specs.RingLaws.{member-below, count-below, cover, cover-below, cover-count, origin}
+use Rattle.steps.specs.RingLaws.{cover, cover-below, cover-count, origin}
 
 -- a replica of the mask m has the shard s: its run of `len` shards starts at its number times `share`, modulo n shares
 pub record HeldBy (n share len m s : ℕ) : Type 0 where

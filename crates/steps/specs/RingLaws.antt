@@ -4,18 +4,17 @@ use mathlib.Core.Logic.{_↔_, inr, ⊎-elim}
 use mathlib.Core.List.{List, [], _∷_}
 use Prim.Native.Nat.{ℕ, zero, suc, _+_, _-_, _%_, _^_, _≤_, _<_}
 use native.Mathlib.Nat.{add-zero, mod-lt, mod-eq-of-lt, mod-add-mod, add-mod-right}
-use native.Mathlib.Decide.{decLt, ℕ-discrete}
+use native.Mathlib.Decide.{ℕ-discrete}
 use native.Mathlib.Omega.{arith}
 use lib.Bits.{bitOr, or-lt}
 use lib.ListN.{length}
 use borrow.Author.Tests.{eqb-true, eq-eqb}
 use Rattle.lists.specs.All.{AllOf}
-use Rattle.bitmap.specs.Mask.{bit, hasBit, withBit, allBelow, count, maskBelow}
-use Rattle.bitmap.specs.MaskLaws.{Within, bit-lt, bit-or, bit-with, bit-other, or-means, beyond-means, below-bit, full-bit, full}
+use Rattle.bitmap.specs.Mask.{bit, hasBit, withBit, count, maskBelow}
+use Rattle.bitmap.specs.MaskLaws.{Within, bit-lt, bit-or, bit-with, bit-other, or-means, beyond-means, full}
 use Rattle.bitmap.specs.CountLaws.{count-within}
 use Rattle.bitmap.specs.Members.{count-means, count-with}
-use Rattle.bitmap.specs.RunLaws.{run-all}
-use Rattle.bitmap.specs.RunCounts.{run-count}
+use Rattle.bitmap.specs.RunCounts.{member-below, all-count}
 use Rattle.bitmap.specs.WidthLaws.{mask-below-lt, mask-below-bit}
 
 -- a member of a mask that has one
@@ -25,24 +24,6 @@ some c h = let m = count-means 1 c .0 h in first (m .list) (m .long) (m .each)
     first : (xs : List ℕ) → length xs ≡ 1 → AllOf (λ k. bit c k ≡ 1) xs → (a : ℕ) × (bit c a ≡ 1)
     first [] e each = absurd (omega arith)
     first (x ∷ xs) e each = (x, each .0)
-
--- the members of a mask below 2 ^ n are below n, and at most n
-pub member-below : (n c a : ℕ) → c < 2 ^ n → bit c a ≡ 1 → a < n
-member-below n c a below here = go (decLt a n)
-  where
-    go : Dec (a < n) → a < n
-    go (yes l) = l
-    go (no l) = absurd (omega (arith, below-bit n c a below (omega arith)))
-
-all-count : (n : ℕ) → count (allBelow n) ≡ n
-all-count n = ap count (sym (run-all n)) ∙ run-count 0 n
-
-pub count-below : (n c : ℕ) → c < 2 ^ n → count c ≤ n
-count-below n c below = omega (arith, count-within c (allBelow n) (λ s. go s (decLt s n)), all-count n)
-  where
-    go : (s : ℕ) → Dec (s < n) → bit c s ≤ bit (allBelow n) s
-    go s (yes l) = omega (arith, bit-lt c s, full-bit n s l)
-    go s (no l) = omega (arith, below-bit n c s below (omega arith))
 
 module _ (n : ℕ) (ring : 0 < n) where
   -- the place before p
