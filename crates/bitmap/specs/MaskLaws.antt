@@ -1,7 +1,7 @@
 -- The laws of masks, at any width: bits of a union and of a meet, and when two masks are equal. Assumes nothing.
 use mathlib.Core.Logic.{_↔_, _⊎_, inl, inr, ⊎-elim}
-use mathlib.Core.Bool.{true}
-use borrow.Author.Tests.{ltb-true, lt-ltb}
+use mathlib.Core.Bool.{true, _||_}
+use borrow.Author.Tests.{ltb-true, lt-ltb, eq-eqb, ne-eqb}
 use mathlib.Core.Path.{_≡_, refl, sym, ap, _∙_, subst}
 use Prim.Native.Nat.{ℕ, zero, suc, _+_, _-_, _/_, _%_, _^_, _≤_, _<_, min, max}
 use native.Mathlib.Nat.{div-self, mul-mod-left, mul-div-cancel, div-one, zero-lt-suc, not-suc-le-zero, le-of-suc-le-suc, zero-div, div-lt-iff-lt-mul, div-eq-of-lt, one-mul, pow-suc, lt-of-lt-of-le}
@@ -11,7 +11,7 @@ use native.Mathlib.Decide.{decLt, ℕ-discrete}
 use lib.Arith.{bin-ind}
 use lib.Pow.{ones-lt, shr-shr, pow-mono, pow-pos}
 use lib.Bits.{bitOr, bitAnd, or-step, and-step, or-shr, and-shr, or-zero-r}
-use Rattle.bitmap.specs.Mask.{allBelow, isBelow, bit, withBit}
+use Rattle.bitmap.specs.Mask.{allBelow, isBelow, bit, hasBit, withBit}
 
 -- ---- single bits
 
@@ -53,6 +53,14 @@ or-means a b s = (go (bit a s) refl, ⊎-elim (λ p. omega (arith, bit-or a b s)
     go : (x : ℕ) → bit a s ≡ x → bit (bitOr a b) s ≡ 1 → (bit a s ≡ 1) ⊎ (bit b s ≡ 1)
     go zero q e = inr (omega (arith, bit-or a b s))
     go (suc x) q e = inl (omega arith)
+
+-- and so the test of one
+pub has-or : (a b s : ℕ) → hasBit (bitOr a b) s ≡ (hasBit a s || hasBit b s)
+has-or a b s = go (ℕ-discrete (bit a s) 1)
+  where
+    go : Dec (bit a s ≡ 1) → hasBit (bitOr a b) s ≡ (hasBit a s || hasBit b s)
+    go (yes p) = rw (eq-eqb (bit (bitOr a b) s) 1 (omega (arith, bit-or a b s)), eq-eqb (bit a s) 1 p)
+    go (no p) = let e : bit (bitOr a b) s ≡ bit b s = omega (arith, bit-or a b s) in rw (e, ne-eqb (bit a s) 1 p)
 
 -- ---- extensionality
 

@@ -1,5 +1,5 @@
--- The laws of the pass over the masks, and worked values.
+-- The laws of the passes over the replicas, and worked values.
 pub mod Supersets
+pub mod Passes
 pub mod Flags
-pub mod Turns
 pub mod Examples

@@ -1,20 +1,22 @@
--- The proper supersets of a set, through the sets with one member more: what `above` looks at. Assumes nothing.
-use Prim.Native.Nat.{ℕ, _+_, _^_, _<_, _≤_, max}
+-- The proper supersets of a set that have more members below b alone: what the pass over the replica b adds to those below it. Assumes nothing.
+use Prim.Native.Nat.{ℕ, _+_, _*_, _/_, _%_, _^_, _<_, _≤_, max}
 use native.Mathlib.Omega.{arith}
-use native.Mathlib.Nat.{le-trans}
-use native.Mathlib.Decide.{decLt}
+use native.Mathlib.Nat.{le-trans, div-one, div-eq-of-lt, mod-lt}
+use native.Mathlib.Decide.{ℕ-discrete}
 use mathlib.Core.Path.{_≡_, refl, sym, ap, subst, _∙_}
-use mathlib.Core.Bool.{Bool, true, false, true≢false}
-use borrow.Author.Tests.{eqb-true, eqb-false, ltb-true, ltb-false}
+use mathlib.Core.Logic.{_↔_}
+use mathlib.Core.Bool.{Bool, true, false, _&&_, _||_, and-eq-true-iff, true≢false}
+use borrow.Author.Tests.{eq-eqb, ne-eqb, eqb-true, eqb-false}
 use lib.Bits.{bitAnd, or-disjoint, or-lt}
-use lib.Dec.{eqb, ltb}
-use lib.Pow.{pow-lt, pow-pos}
+use lib.Dec.{eqb}
+use lib.Pow.{pow-lt, pow-pos, shr-shr, split, high}
 use Rattle.bitmap.specs.Mask.{bit}
-use Rattle.bitmap.specs.MaskLaws.{Within, bit-and, bit-or, bit-none, bit-other, below-bit, same-bits}
+use Rattle.bitmap.specs.MaskLaws.{Within, bit-and, bit-or, bit-none, bit-other, same-bits}
 use Rattle.lists.specs.Below.{someBelow}
-use Rattle.lists.specs.BelowLaws.{Passing, some-below-means, none-below-means}
-use Rattle.maximal.specs.Maximal.{isCoveredBy}
-use Rattle.maximal.specs.MaximalLaws.{Covering, covered-means, within-le}
+use Rattle.lists.specs.BelowLaws.{some-below-means, some-below-same, none-below-means}
+use Rattle.maximal.specs.Maximal.{isBeyond, isCoveredBy}
+use Rattle.maximal.specs.MaximalLaws.{within-le, beyond-means}
+use Rattle.maximal.specs.Tables.{isLacking}
 
 -- ---- m with a member b that it lacks
 module _ (m b : ℕ) (lacks : bit m b ≡ 0) where
@@ -41,59 +43,143 @@ module _ (m b : ℕ) (lacks : bit m b ≡ 0) where
       go true q = let o : bit m k < bit s k = subst (λ (x : ℕ). bit m x < bit s x) (sym (eqb-true k b q)) h in omega arith
       go false q = omega (arith, bit-more k, w k, bit-other b k (eqb-false k b q))
 
--- a proper superset has a member that m lacks
-missing : (n m s : ℕ) → m < 2 ^ n → s < 2 ^ n → Within m s → (m ≡ s → ⊥) → Passing (λ (b : ℕ). ltb (bit m b) (bit s b)) n
-missing n m s hm hs w p = go (someBelow lacks n) refl
-  where
-    lacks : ℕ → Bool
-    lacks b = ltb (bit m b) (bit s b)
+-- what is left of a number above b, and above b + 1
+half : (m b : ℕ) → m / 2 ^ (b + 1) ≡ m / 2 ^ b / 2
+half m b = sym (shr-shr m b 1)
 
-    go : (t : Bool) → someBelow lacks n ≡ t → Passing lacks n
-    go true q = some-below-means lacks n .0 q
-    go false q =
-        absurd (p (same-bits m s (λ k. elim (decLt k n) [
-          | yes l ↦ omega (arith, w k, ltb-false (bit m k) (bit s k) (none-below-means lacks n .0 q k l))
-          | no f ↦ below-bit n m k hm (omega arith) ∙ sym (below-bit n s k hs (omega arith))
-        ])))
+raised : (m b : ℕ) → (m + 2 ^ b) / 2 ^ b ≡ m / 2 ^ b + 1
+raised m b = ap (λ (x : ℕ). x / 2 ^ b) (let s = split m b in omega arith) ∙ high (m / 2 ^ b + 1) b (mod-lt m (pow-pos b))
 
--- ---- covered sets
-module _ (g : ℕ → Bool) (n m : ℕ) where
-  -- m with the member b is in the family, or covered: m is covered
-  pub covered-here : (b : ℕ) → bit m b ≡ 0 → m + 2 ^ b < 2 ^ n → g (m + 2 ^ b) ≡ true → isCoveredBy g n m ≡ true
-  covered-here b z l e =
-      covered-means g n m .1 (record { set = m + 2 ^ b; small = l; member = e; holds = within-more m b z; proper = λ q. omega (arith, pow-pos b) })
+-- two tests that hold together
+both-ways : (a b : Bool) → (a ≡ true → b ≡ true) → (b ≡ true → a ≡ true) → a ≡ b
+both-ways true b f g = sym (f refl)
+both-ways false true f g = g refl
+both-ways false false f g = refl
 
-  pub covered-further : (b : ℕ) → bit m b ≡ 0 → isCoveredBy g n (m + 2 ^ b) ≡ true → isCoveredBy g n m ≡ true
-  covered-further b z e =
-      let r = covered-means g n (m + 2 ^ b) .0 e in
-      covered-means g n m .1 (record {
+-- ---- some proper superset of m in the family g has the members of m from b on, and no others there
+module _ (g : ℕ → Bool) (n : ℕ) where
+  abbrev pub isReached : ℕ → ℕ → Bool
+  isReached b m = someBelow (λ (s : ℕ). (g s && isBeyond m s) && eqb (s / 2 ^ b) (m / 2 ^ b)) (2 ^ n)
+
+  record Reaching (b m : ℕ) : Type 0 where
+    pub set : ℕ
+    pub small : set < 2 ^ n
+    pub member : g set ≡ true
+    pub holds : Within m set
+    pub proper : m ≡ set → ⊥
+    pub same : set / 2 ^ b ≡ m / 2 ^ b
+
+  reached-means : (b m : ℕ) → (isReached b m ≡ true) ↔ Reaching b m
+  reached-means b m = (
+    λ e.
+        let r = some-below-means (λ (s : ℕ). (g s && isBeyond m s) && eqb (s / 2 ^ b) (m / 2 ^ b)) (2 ^ n) .0 e in
+        let s : ℕ = r .number in
+        let p = and-eq-true-iff (g s && isBeyond m s) (eqb (s / 2 ^ b) (m / 2 ^ b)) .0 (r .passes) in
+        let q = and-eq-true-iff (g s) (isBeyond m s) .0 (p .0) in
+        let w = beyond-means m s .0 (q .1) in
+        record { set = s; small = r .small; member = q .0; holds = w .0; proper = w .1; same = eqb-true (s / 2 ^ b) (m / 2 ^ b) (p .1) },
+    λ r. some-below-means (λ (s : ℕ). (g s && isBeyond m s) && eqb (s / 2 ^ b) (m / 2 ^ b)) (2 ^ n) .1 (record {
+      number = r .set;
+      small = r .small;
+      passes = and-eq-true-iff (g (r .set) && isBeyond m (r .set)) (eqb (r .set / 2 ^ b) (m / 2 ^ b)) .1 (
+        and-eq-true-iff (g (r .set)) (isBeyond m (r .set)) .1 (r .member, beyond-means m (r .set) .1 (r .holds, r .proper)),
+        eq-eqb (r .set / 2 ^ b) (m / 2 ^ b) (r .same),
+      );
+    }),
+  )
+
+  -- from 0 on there is none
+  pub reached-none : (m : ℕ) → isReached 0 m ≡ false
+  reached-none m = go (isReached 0 m) refl
+    where
+      go : (t : Bool) → isReached 0 m ≡ t → isReached 0 m ≡ false
+      go false q = q
+      go true q = let r = reached-means 0 m .0 q in absurd (r .proper (sym (div-one m) ∙ sym (r .same) ∙ div-one (r .set)))
+
+  -- from n on there is nothing else
+  pub reached-all : (m : ℕ) → m < 2 ^ n → isReached n m ≡ isCoveredBy g n m
+  unfolding isCoveredBy
+  reached-all m l =
+      some-below-same (λ (s : ℕ). (g s && isBeyond m s) && eqb (s / 2 ^ n) (m / 2 ^ n)) (λ (s : ℕ). g s && isBeyond m s) (2 ^ n)
+      (λ s i. rw (div-eq-of-lt i, div-eq-of-lt l) (last (g s && isBeyond m s)))
+    where
+      last : (x : Bool) → (x && true) ≡ x
+      last true = refl
+      last false = refl
+
+  -- the pass over b
+  module _ (b m : ℕ) where
+    wider : Reaching b m → Reaching (b + 1) m
+    wider r = record {
+      set = r .set;
+      small = r .small;
+      member = r .member;
+      holds = r .holds;
+      proper = r .proper;
+      same = half (r .set) b ∙ ap (λ (x : ℕ). x / 2) (r .same) ∙ sym (half m b);
+    }
+
+    module _ (z : bit m b ≡ 0) where
+      alike : (m + 2 ^ b) / 2 ^ (b + 1) ≡ m / 2 ^ (b + 1)
+      alike = omega (arith, half (m + 2 ^ b) b, half m b, raised m b, z)
+
+      with-it : m + 2 ^ b < 2 ^ n → g (m + 2 ^ b) ≡ true → Reaching (b + 1) m
+      with-it l e =
+          record { set = m + 2 ^ b; small = l; member = e; holds = within-more m b z; proper = λ q. omega (arith, pow-pos b); same = alike }
+
+      beyond-it : Reaching b (m + 2 ^ b) → Reaching (b + 1) m
+      beyond-it r = record {
         set = r .set;
         small = r .small;
         member = r .member;
         holds = λ k. le-trans (within-more m b z k) (r .holds k);
         proper = λ q. omega (arith, pow-pos b, within-le (m + 2 ^ b) (r .set) (r .holds));
-      })
+        same = half (r .set) b ∙ ap (λ (x : ℕ). x / 2) (r .same) ∙ sym (half (m + 2 ^ b) b) ∙ alike;
+      }
 
-  -- no set with one member more shows it
-  abbrev pub Unseen : ℕ → Type 0
-  Unseen b = (k : ℕ) → k < b → bit m k ≡ 0 → (g (m + 2 ^ k) ≡ false) × (isCoveredBy g n (m + 2 ^ k) ≡ false)
+    narrower : Reaching (b + 1) m → (isReached b m || (isLacking b m && (g (m + 2 ^ b) || isReached b (m + 2 ^ b)))) ≡ true
+    narrower r = go (ℕ-discrete (bit (r .set) b) (bit m b))
+      where
+        s : ℕ
+        s = r .set
 
-  clash :
-      (r : Covering g n m) (s : ℕ) → Within s (r .set) → g s ≡ false → isCoveredBy g n s ≡ false → (t : Bool) → eqb s (r .set) ≡ t → ⊥
-  clash r s w f u true q = true≢false (sym (r .member) ∙ ap g (sym (eqb-true s (r .set) q)) ∙ f)
-  clash r s w f u false q =
-      true≢false (sym (covered-means g n s .1 (record { set = r .set; small = r .small; member = r .member; holds = w; proper = eqb-false s (r .set) q })) ∙ u)
+        halves : s / 2 ^ b / 2 ≡ m / 2 ^ b / 2
+        halves = sym (half s b) ∙ r .same ∙ half m b
 
-  pub uncovered : m < 2 ^ n → Unseen n → isCoveredBy g n m ≡ false
-  uncovered l h = go (isCoveredBy g n m) refl
+        or-true : (x : Bool) → (x || true) ≡ true
+        or-true true = refl
+        or-true false = refl
+
+        more : bit m b ≡ 0 → bit s b ≡ 1 → Dec (m + 2 ^ b ≡ s) → (g (m + 2 ^ b) || isReached b (m + 2 ^ b)) ≡ true
+        more z o (yes q) = rw (ap g q ∙ r .member)
+        more z o (no d) =
+            rw (reached-means b (m + 2 ^ b) .1 (record {
+              set = s;
+              small = r .small;
+              member = r .member;
+              holds = more-within m b z s (r .holds) (omega arith);
+              proper = d;
+              same = omega (arith, raised m b, halves);
+            })) (or-true (g (m + 2 ^ b)))
+
+        go : Dec (bit s b ≡ bit m b) → (isReached b m || (isLacking b m && (g (m + 2 ^ b) || isReached b (m + 2 ^ b)))) ≡ true
+        go (yes e) =
+            rw (reached-means b m .1 (record { set = s; small = r .small; member = r .member; holds = r .holds; proper = r .proper; same = omega (arith, halves) }))
+        go (no d) =
+            let h = r .holds b in
+            let z : bit m b ≡ 0 = omega arith in
+            rw (eq-eqb (bit m b) 0 z, more z (omega arith) (ℕ-discrete (m + 2 ^ b) s)) (or-true (isReached b m))
+
+  pub reached-more : (b m : ℕ) → b < n → m < 2 ^ n
+      → isReached (b + 1) m ≡ (isReached b m || (isLacking b m && (g (m + 2 ^ b) || isReached b (m + 2 ^ b))))
+  reached-more b m h l =
+      both-ways (isReached (b + 1) m) (isReached b m || (isLacking b m && (g (m + 2 ^ b) || isReached b (m + 2 ^ b))))
+      (λ e. narrower b m (reached-means (b + 1) m .0 e))
+      (λ e. reached-means (b + 1) m .1 (go (isReached b m) refl (ℕ-discrete (bit m b) 0) (g (m + 2 ^ b)) refl e))
     where
-      go : (t : Bool) → isCoveredBy g n m ≡ t → isCoveredBy g n m ≡ false
-      go false q = q
-      go true q =
-          let r = covered-means g n m .0 q in
-          let f = missing n m (r .set) l (r .small) (r .holds) (r .proper) in
-          let b : ℕ = f .number in
-          let o : bit m b < bit (r .set) b = ltb-true (bit m b) (bit (r .set) b) (f .passes) in
-          let z : bit m b ≡ 0 = omega arith in
-          let u = h b (f .small) z in
-          absurd (clash r (m + 2 ^ b) (more-within m b z (r .set) (r .holds) o) (u .0) (u .1) (eqb (m + 2 ^ b) (r .set)) refl)
+      go : (t : Bool) → isReached b m ≡ t → Dec (bit m b ≡ 0) → (u : Bool) → g (m + 2 ^ b) ≡ u
+          → (t || (isLacking b m && (u || isReached b (m + 2 ^ b)))) ≡ true → Reaching (b + 1) m
+      go true q z u k e = wider b m (reached-means b m .0 q)
+      go false q (no z) u k e = absurd (true≢false (sym e ∙ rw (ne-eqb (bit m b) 0 z)))
+      go false q (yes z) true k e = with-it b m z (more-lt m b z n h l) k
+      go false q (yes z) false k e = beyond-it b m z (reached-means b (m + 2 ^ b) .0 (rw (eq-eqb (bit m b) 0 z) at e))

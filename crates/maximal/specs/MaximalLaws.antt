@@ -15,7 +15,6 @@ use Rattle.bitmap.specs.MaskLaws.{Within, bit-and, same-bits}
 use Rattle.lists.specs.BelowLaws.{some-below-means, some-below-same, those-below-means, those-below-rising, those-below-same}
 use Rattle.lists.specs.SortLaws.{Ordered}
 use Rattle.maximal.specs.Maximal.{isPart, isBeyond, isCoveredBy, isMaximal, maximals}
-use Rattle.maximal.specs.Tables.{flagged, Flags}
 
 -- ---- parts
 
@@ -131,12 +130,3 @@ unfolding maximals isMaximal isCoveredBy
 maximals-same f g n h =
     those-below-same (isMaximal f n) (isMaximal g n) (2 ^ n)
     (λ m l. rw (h m l, some-below-same (λ (s : ℕ). f s && isBeyond m s) (λ (s : ℕ). g s && isBeyond m s) (2 ^ n) (λ s i. rw (h s i))))
-
--- the family of a table of flags
-pub flagged-is : (g : ℕ → Bool) (t : List ℕ) → Flags g t → (m : ℕ) → m < length t → flagged t m ≡ g m
-unfolding flagged Flags
-flagged-is g t h m l = rw (h m l) (go (g m))
-  where
-    go : (b : Bool) → not (eqb (cond b 1 0) 0) ≡ b
-    go true = refl
-    go false = refl

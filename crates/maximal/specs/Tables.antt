@@ -1,25 +1,33 @@
--- Families as tables of flags, a flag a mask. Assumes nothing.
-use Prim.Native.Nat.{ℕ, _+_, _^_, _<_, _≤_}
+-- Families as tables of bits, and what a pass over one replica adds to the cover of one. Assumes nothing.
+use Prim.Native.Nat.{ℕ, _+_, _/_, _%_, _^_, _<_}
 use mathlib.Core.Path.{_≡_}
-use mathlib.Core.Bool.{Bool, not, cond, _&&_, _||_}
+use mathlib.Core.Bool.{Bool, _&&_, _||_}
 use mathlib.Core.List.{List}
 use lib.Dec.{eqb}
-use lib.ListN.{length, getD}
-use Rattle.bitmap.specs.Mask.{bit}
+use Rattle.bitmap.specs.Mask.{bit, hasBit}
+use Rattle.marks.specs.Marks.{flagged}
 use Rattle.maximal.specs.Maximal.{isCoveredBy}
 
--- the family that a table flags
-unfoldable pub flagged : List ℕ → ℕ → Bool
-flagged table m = not (eqb (getD table m 0) 0)
+-- the table flags the family g of sets of n replicas
+unfoldable pub Flags : ℕ → (ℕ → Bool) → List ℕ → Type 0
+Flags n g table = (m : ℕ) → m < 2 ^ n → flagged table m ≡ g m
 
--- each flag says whether the test holds
-unfoldable pub Flags : (ℕ → Bool) → List ℕ → Type 0
-Flags g table = (m : ℕ) → m < length table → getD table m 0 ≡ cond (g m) 1 0
+-- the table `over` flags the sets with some proper superset in the family that `table` flags
+abbrev pub Covers : ℕ → List ℕ → List ℕ → Type 0
+Covers n table over = Flags n (isCoveredBy (flagged table) n) over
 
--- the table `over` says of each set from `from` on whether some proper superset of it is in the family that `table` flags
-unfoldable pub Covers : ℕ → List ℕ → List ℕ → ℕ → Type 0
-Covers n table over from = (m : ℕ) → from ≤ m → m < length table → getD over m 0 ≡ cond (isCoveredBy (flagged table) n m) 1 0
+-- m lacks the member b
+abbrev pub isLacking : ℕ → ℕ → Bool
+isLacking b m = eqb (bit m b) 0
 
 -- m lacks the member b, and with it is flagged in one of the tables
 abbrev pub isShown : List ℕ → List ℕ → ℕ → ℕ → Bool
-isShown table over m b = eqb (bit m b) 0 && (flagged table (m + 2 ^ b) || flagged over (m + 2 ^ b))
+isShown table over b m = isLacking b m && (flagged table (m + 2 ^ b) || flagged over (m + 2 ^ b))
+
+-- the word w has just those of the sets of the word k
+unfoldable pub Shows : ℕ → List ℕ → List ℕ → ℕ → ℕ → Type 0
+Shows b table over k w = (m : ℕ) → m / 64 ≡ k → hasBit w (m % 64) ≡ isShown table over b m
+
+-- `after` flags them all, and what `before` does
+unfoldable pub Spread : ℕ → List ℕ → List ℕ → List ℕ → Type 0
+Spread b table before after = (m : ℕ) → flagged after m ≡ (flagged before m || isShown table before b m)

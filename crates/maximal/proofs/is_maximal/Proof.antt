@@ -5,4 +5,4 @@ use Rattle.maximal.proofs.is_maximal.Statement.{statement}
 use Rattle.maximal.proofs.is_maximal.Tie as tie
 
 pub is-maximal-spec : {M : Type 1} → statement M
-is-maximal-spec = tie.close (tie.spec (λ c. search needs) (λ c. search absent) (λ c. search needs) (λ c. search present))
+is-maximal-spec = tie.close (tie.spec (λ c κs. search needs) (λ c κs. search needs) (λ c. search present) (λ c. search absent))
