@@ -1,10 +1,10 @@
 -- `faults::with_tables` meets its contract. Assumes nothing.
-use mathlib.Core.Path.{_≡_, sym}
+use mathlib.Core.Path.{_≡_, sym, _∙_}
 use native.Mathlib.Omega.{arith}
 use borrow.Author.Needs.{needs}
 use lib.ListN.{length}
 use lib.Seq.{length-take-le}
-use Rattle.faults.proofs.Answers.{inside, sized, counted}
+use Rattle.faults.proofs.Answers.{size-small, inside, counted, enough}
 use Rattle.faults.proofs.with_tables.Statement.{statement}
 use Rattle.faults.proofs.with_tables.Tie as tie
 
@@ -13,6 +13,7 @@ with-tables-spec =
     tie.close
     (tie.spec
     (λ c. search needs)
+    (λ c. let s = c .before .before .before in omega (arith, size-small (s .args .n) (s .pre .0)))
     (λ c.
     let s = c .before .before .before .before .before .before in
     let l : length (s .args .p .domains) ≡ 64 = search needs in
@@ -36,7 +37,21 @@ with-tables-spec =
     (λ c κs.
     let s = c .before .before .before .before .before .before .before .before .before .before .before in
     let l : length (s .args .p .probs) ≡ 16 = search needs in
-    (length-take-le (s .args .n) (s .args .p .probs) (omega arith), (search sized, (search sized, (s .pre .1 .1 .1 .members, s .pre .1 .1 .1 .chances)))))
+    let h = s .pre .0 in
+    let e = s .pre .1 .0 in
+    let u = s .pre .1 .1 .0 in (
+      h,
+      (
+        length-take-le (s .args .n) (s .args .p .probs) (omega arith),
+        (
+          enough (s .args .n) h (s .args .table .now) e,
+          (
+            sym (counted (s .args .n) h (s .args .over .now) u) ∙ counted (s .args .n) h (s .args .table .now) e,
+            (s .pre .1 .1 .1 .members, s .pre .1 .1 .1 .chances),
+          ),
+        ),
+      ),
+    ))
     (λ c. search needs)
     (λ c. search needs)
     (λ c. search needs)
