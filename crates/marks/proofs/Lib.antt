@@ -1,0 +1,2 @@
+-- Worked values.
+pub mod Examples
