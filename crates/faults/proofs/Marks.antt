@@ -161,7 +161,8 @@ marked-then size f g h a b c m n s j l = rw (n j l, m j l, s j) (go (g j) (f j))
     go false y = refl
 
 -- one store
-pub marked-one : (size m : ℕ) (t : Bool) (a b : List ℕ) → m < 64 * length a → b ≡ withFlag a m → t ≡ true → Marked size (λ j. eqb j m && t) a b
+pub marked-one : (size m : ℕ) (t : Bool) (a b : List ℕ)
+    → m < 64 * length a → b ≡ withFlag a m → t ≡ true → Marked size (λ j. eqb j m && t) a b
 unfolding Marked
 marked-one size m t a b i q e j l = ap (λ (x : List ℕ). flagged x j) q ∙ flagged-with a m j i ∙ rw e (go (eqb j m))
   where
@@ -218,7 +219,8 @@ module _ (f : ℕ) where
       pub done-leave : (after : List ℕ) → after ≡ t → (c ≡ f → ⊥) → Done (m + 1) after
       unfolding isSized
       done-leave after e d =
-          rw e (below-more (λ (j : ℕ). flagged t j ≡ eqb (count j) f) m done (blank m (omega arith) ∙ sym (ne-eqb (count m) f (λ (q : count m ≡ f). d (told ∙ q)))))
+          let here = blank m (omega arith) ∙ sym (ne-eqb (count m) f (λ (q : count m ≡ f). d (told ∙ q))) in
+          rw e (below-more (λ (j : ℕ). flagged t j ≡ eqb (count j) f) m done here)
 
       module _ (inside : m < 64 * length t) (after : List ℕ) (put : after ≡ withFlag t m) where
         at : (j : ℕ) → flagged after j ≡ (eqb j m || flagged t j)

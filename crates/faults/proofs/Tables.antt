@@ -41,4 +41,5 @@ flags-family n f ds known ps threshold a b c e h g k m l =
 
 -- domains of n replicas have a bit each in a table of 2 ^ n
 pub domains-fit : (n size : ℕ) (ds : List ℕ) → 2 ^ n ≤ size → all (isMask n) ds ≡ true → all (isUnder size) ds ≡ true
-domains-fit n size ds e h = listed-all (isUnder size) ds (λ m d. lt-ltb m size (omega (arith, ltb-true m (2 ^ n) (all-listed (isMask n) ds h m d))))
+domains-fit n size ds e h =
+    listed-all (isUnder size) ds (λ m d. lt-ltb m size (omega (arith, ltb-true m (2 ^ n) (all-listed (isMask n) ds h m d))))

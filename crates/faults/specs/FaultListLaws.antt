@@ -12,6 +12,7 @@ use lib.Dec.{eqb, ltb}
 use lib.ListN.{length, take, drop}
 use lib.Pow.{pow-pos}
 use lib.Seq.{take-append-seam}
+use Rattle.lists.specs.All.{all}
 use Rattle.lists.specs.AllLaws.{all-means}
 use Rattle.lists.specs.Below.{front}
 use Rattle.lists.specs.ListedLaws.{listed-all}
@@ -57,12 +58,15 @@ pub maximals-listed : (g : ℕ → Bool) (n m : ℕ) → m < 2 ^ n → g m ≡ t
 maximals-listed g n m l e whole =
     let c = contained g n m l e in
     fault-list-means n (maximals g n) .1
-    (some-listed (c .set) (maximals g n) (c .listed), all-means (isFaultSet n) 0 (maximals g n) .0 (listed-all (isFaultSet n) (maximals g n) (λ s d. fits s (maximal-means g n s .0 d))))
+    (some-listed (c .set) (maximals g n) (c .listed), all-means (isFaultSet n) 0 (maximals g n) .0 each)
   where
     fits : (s : ℕ) → (s < 2 ^ n) × (g s ≡ true) × ((t : ℕ) → t < 2 ^ n → g t ≡ true → Within s t → s ≡ t) → isFaultSet n s ≡ true
     fits s p =
         and-eq-true-iff (isMask n s) (not (eqb s (allBelow n))) .1
         (lt-ltb s (2 ^ n) (p .0), ap not (ne-eqb s (allBelow n) (λ (q : s ≡ allBelow n). true≢false (sym (p .1) ∙ ap g q ∙ whole))))
+
+    each : all (isFaultSet n) (maximals g n) ≡ true
+    each = listed-all (isFaultSet n) (maximals g n) (λ s d. fits s (maximal-means g n s .0 d))
 
 module _ (n f : ℕ) (p : Profile) where
   -- a family has some set: one of exactly f replicas
@@ -87,7 +91,8 @@ module _ (n f : ℕ) (p : Profile) where
       let a = accepted-means (faultRefusal n f p (length list)) (length (faults n f p)) c .0 e in
       rw (a .0, ← a .1) (take-append-seam (faults n f p) (drop (length (faults n f p)) list))
 
-  pub written-fits : (list : List ℕ) (c : ℕ) → faultListOf n f p (length list) ≡ accepted c → isFaultList n (take c (faultWords n f p list)) ≡ true
+  pub written-fits : (list : List ℕ) (c : ℕ) → faultListOf n f p (length list) ≡ accepted c
+      → isFaultList n (take c (faultWords n f p list)) ≡ true
   unfolding faultListOf
   written-fits list c e =
       ap (isFaultList n) (written-is list c e)

@@ -25,7 +25,8 @@ flagged-union t k w m h = go (ℕ-discrete (m / 64) k)
     last false = refl
 
     go : Dec (m / 64 ≡ k)
-        → hasBit (getD (set t k (bitOr (getD t k 0) w)) (m / 64) 0) (m % 64) ≡ (hasBit (getD t (m / 64) 0) (m % 64) || (eqb (m / 64) k && hasBit w (m % 64)))
+        → hasBit (getD (set t k (bitOr (getD t k 0) w)) (m / 64) 0) (m % 64)
+        ≡ (hasBit (getD t (m / 64) 0) (m % 64) || (eqb (m / 64) k && hasBit w (m % 64)))
     go (yes e) = rw (eq-eqb (m / 64) k e, e, getD-set-same t k (bitOr (getD t k 0) w) 0 h) (has-or (getD t k 0) w (m % 64))
     go (no d) =
         rw (ne-eqb (m / 64) k d, getD-set-other t k (m / 64) (bitOr (getD t k 0) w) 0 d) (last (hasBit (getD t (m / 64) 0) (m % 64)))

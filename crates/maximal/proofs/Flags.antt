@@ -1,5 +1,5 @@
--- One set in the two tables, and how many sets there are. The premises of each law are the fields of a need's record, so that `search` finds them.
--- Assumes nothing.
+-- One set in the two tables, and how many sets there are. The premises of each law are the fields of a need's record, so that `search` finds
+-- them. Assumes nothing.
 use Prim.Native.Nat.{ℕ, _*_, _%_, _^_, _<_, _≤_}
 use native.Mathlib.Omega.{arith}
 use mathlib.Core.Path.{_≡_, sym, ap, _∙_}

@@ -1,5 +1,5 @@
--- The pass over one replica, word by word, and the passes one after another. The premises of each law are the fields of a need's record, so that `search`
--- finds them. Assumes nothing.
+-- The pass over one replica, word by word, and the passes one after another. The premises of each law are the fields of a need's record, so
+-- that `search` finds them. Assumes nothing.
 use Prim.Native.Nat.{ℕ, _+_, _-_, _*_, _/_, _%_, _^_, _<_, _≤_}
 use native.Mathlib.Decide.{ℕ-discrete, decLt}
 use native.Mathlib.Omega.{arith}
@@ -26,7 +26,8 @@ low-bit : (m b : ℕ) → b < 6 → bit (m % 64) b ≡ bit m b
 low-bit m b h =
     let e : 6 ≡ 6 - b + b = omega arith in
     let f : 6 - b ≡ 5 - b + 1 = omega arith in
-    ap (λ (x : ℕ). bit (m % 2 ^ x) b) e ∙ ap (λ (x : ℕ). x % 2) (field m (6 - b) b) ∙ ap (λ (x : ℕ). m / 2 ^ b % 2 ^ x % 2) f ∙ mod-mod-pow (m / 2 ^ b) (5 - b) 1
+    ap (λ (x : ℕ). bit (m % 2 ^ x) b) e ∙ ap (λ (x : ℕ). x % 2) (field m (6 - b) b)
+    ∙ ap (λ (x : ℕ). m / 2 ^ b % 2 ^ x % 2) f ∙ mod-mod-pow (m / 2 ^ b) (5 - b) 1
 
 high-bit : (m b : ℕ) → 6 ≤ b → bit (m / 64) (b - 6) ≡ bit m b
 high-bit m b h =
@@ -45,7 +46,8 @@ shift-fits b h = let t : 2 ^ b < 2 ^ 6 = pow-lt h in omega (arith, shift b h)
 
 -- ---- what a word gets
 module _ (table over : List ℕ) (b k : ℕ) where
-  module _ (low : b < 6) (r : ℕ) (told : r ≡ bitAnd (bitOr (getD table k 0) (getD over k 0) / 2 ^ (2 ^ b)) (maskBelow (isLacking b) 64)) where
+  module _ (low : b < 6) (r : ℕ)
+      (told : r ≡ bitAnd (bitOr (getD table k 0) (getD over k 0) / 2 ^ (2 ^ b)) (maskBelow (isLacking b) 64)) where
     pub near-shows : Shows b table over k r
     unfolding Shows flagged
     near-shows m e = rw told (go (ℕ-discrete (bit m b) 0))
@@ -118,7 +120,9 @@ module _ (table over : List ℕ) (b k : ℕ) where
       pub far-past : length over ≡ length table → length over - k ≤ far → Shows b table over k 0
       unfolding Shows
       far-past s h m e =
-          rw (bit-none (m % 64), lacks m e, flagged-past table (m + 2 ^ b) (omega (arith, word m e)), flagged-past over (m + 2 ^ b) (omega (arith, word m e)))
+          let t = flagged-past table (m + 2 ^ b) (omega (arith, word m e)) in
+          let o = flagged-past over (m + 2 ^ b) (omega (arith, word m e)) in
+          rw (bit-none (m % 64), lacks m e, t, o)
 
 -- ---- the pass over the replica b: the words below k are done, and the others as they were
 module _ (table before : List ℕ) (b : ℕ) where
@@ -168,8 +172,9 @@ module _ (table before : List ℕ) (b : ℕ) where
         go : Dec (m / 64 < k) → flagged after m ≡ (flagged before m || isShown table before b m)
         go (yes l) = done m l
         go (no l) =
-            left m (omega arith)
-            ∙ rw (flagged-past table (m + 2 ^ b) (omega arith), flagged-past before (m + 2 ^ b) (omega arith), none (isLacking b m)) (sym (last (flagged before m)))
+            let x = flagged-past table (m + 2 ^ b) (omega arith) in
+            let y = flagged-past before (m + 2 ^ b) (omega arith) in
+            left m (omega arith) ∙ rw (x, y, none (isLacking b m)) (sym (last (flagged before m)))
 
 -- ---- the passes over the replicas below b
 module _ (table : List ℕ) (n : ℕ) where

@@ -1,4 +1,5 @@
--- The proper supersets of a set that have more members below b alone: what the pass over the replica b adds to those below it. Assumes nothing.
+-- The proper supersets of a set that have further members below b alone, and what the pass over the replica b adds to them.
+-- Assumes nothing.
 use Prim.Native.Nat.{ℕ, _+_, _*_, _/_, _%_, _^_, _<_, _≤_, max}
 use native.Mathlib.Omega.{arith}
 use native.Mathlib.Nat.{le-trans, div-one, div-eq-of-lt, mod-lt}
@@ -164,7 +165,14 @@ module _ (g : ℕ → Bool) (n : ℕ) where
 
         go : Dec (bit s b ≡ bit m b) → (isReached b m || (isLacking b m && (g (m + 2 ^ b) || isReached b (m + 2 ^ b)))) ≡ true
         go (yes e) =
-            rw (reached-means b m .1 (record { set = s; small = r .small; member = r .member; holds = r .holds; proper = r .proper; same = omega (arith, halves) }))
+            rw (reached-means b m .1 (record {
+              set = s;
+              small = r .small;
+              member = r .member;
+              holds = r .holds;
+              proper = r .proper;
+              same = omega (arith, halves);
+            }))
         go (no d) =
             let h = r .holds b in
             let z : bit m b ≡ 0 = omega arith in

@@ -1,4 +1,5 @@
-// The maximal members of a family of sets of n replicas. The family is a table of 2^n bits, a bit a mask; so is what covers it. Both are worked on by words.
+// The maximal members of a family of sets of n replicas, which a table of 2^n bits holds, a bit a mask. A second table says which sets are
+// covered; it is made in one pass over its words for each replica.
 ghost use mathlib.Core.Path.{_≡_};
 ghost use Prim.Native.Nat.{_*_, _/_, _^_, _<_, _≤_};
 ghost use lib.Bits.{bitAnd};
@@ -9,8 +10,8 @@ ghost use Rattle.marks.specs.Marks.{flagged};
 ghost use Rattle.maximal.specs.Maximal.{isMaximal, maximals};
 ghost use Rattle.maximal.specs.Tables.{Covers, Spread, Shows, isLacking};
 
-// Says of each set, in `over`, whether some proper superset of it is in the family. After the replica b those are done that have more replicas up to b alone.
-// A part: the tables are as long.
+// Says of each set, in `over`, whether some proper superset of it is in the family. After the pass over the replica b those supersets are found
+// that have further replicas up to b alone. A part: the tables are as long.
 pub fn cover(table: &[u64], over: &mut [u64], n: usize)
     requires { ⌜ n ≤ 16 ⌝ }
     requires { ⌜ length (now over) ≡ length (now table) ⌝ }
@@ -79,7 +80,8 @@ fn is_maximal(table: &[u64], over: &[u64], n: usize, m: usize) -> bool
     false
 }
 
-// Flags in `over` each set that lacks the replica b, and with it is flagged in one of the tables. The words go upward: what is read is not yet written.
+// Flags in `over` each set that lacks the replica b, and with it is flagged in one of the tables. It goes upward, so that a word further up is
+// read before it is written.
 fn spread(table: &[u64], over: &mut [u64], b: usize)
     requires { ⌜ b < 16 ⌝ }
     requires { ⌜ length (now over) ≡ length (now table) ⌝ }
@@ -93,8 +95,8 @@ fn spread(table: &[u64], over: &mut [u64], b: usize)
     }
 }
 
-// Those of the 64 sets of the word k that lack the replica b, and with it are flagged in one of the tables. Below 6 the set with b is in the same word, and
-// from 6 on in the same place of another.
+// Those of the 64 sets of the word k that lack the replica b, and with it are flagged in one of the tables. The set with a replica below 6 is in
+// the same word; that with another is at the same place in a word further up.
 fn shown(table: &[u64], over: &[u64], b: usize, k: usize) -> u64
     requires { ⌜ b < 16 ⌝ }
     requires { ⌜ length (now over) ≡ length (now table) ⌝ }

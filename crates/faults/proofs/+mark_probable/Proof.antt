@@ -40,7 +40,8 @@ mark-probable-below t =
 abbrev Start : ℕ → Type 0
 Start t = mark-probable-lts.Start (mark-probable-below t, mark-probable.Post, put-reads.Asked, put-reads.Learnt) (mark-probable-at t) mark-probable.Post
 
-room-at : (t : ℕ) (s : Start t) → s .args .next < length (s .args .probs .now) → Room (64 * length (s .args .table .now)) (s .args .next) (s .args .mask)
+room-at : (t : ℕ) (s : Start t) → s .args .next < length (s .args .probs .now)
+    → Room (64 * length (s .args .table .now)) (s .args .next) (s .args .mask)
 room-at t s h =
     let a = s .args in
     room (64 * length (a .table .now)) (length (a .probs .now)) (a .next) (a .mask) (s .pre .1 .0) (s .pre .1 .1 .0) h (s .pre .1 .1 .1 .0)

@@ -35,7 +35,8 @@ returns c =
     let a = s .args in
     let g : ℕ → Bool = familyOf (a .f) (a .domains .now) (a .known) (a .probs .now) (a .threshold) in
     let t : List ℕ = v .flags .last .0 in
-    let h : (k : ℕ) → k < 2 ^ a .n → flagged t k ≡ g k = subst (λ (x : ℕ). (k : ℕ) → k < 2 ^ x → flagged t k ≡ g k) (s .pre .1 .0) (v .flags .ensures) in
+    let h : (k : ℕ) → k < 2 ^ a .n → flagged t k ≡ g k =
+    subst (λ (x : ℕ). (k : ℕ) → k < 2 ^ x → flagged t k ≡ g k) (s .pre .1 .0) (v .flags .ensures) in
     let r = c .before .before .before .before in
     (r .list-of .ensures .0 ∙ answer-same (flagged t) g (a .n) h (length (a .list .now)), r .list-of .ensures .1 ∙ words-same (flagged t) g (a .n) h (a .list .now))
 

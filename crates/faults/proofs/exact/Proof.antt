@@ -13,7 +13,8 @@ use Rattle.faults.proofs.exact.Statement.{statement}
 use Rattle.faults.proofs.exact.Tie as tie
 
 abbrev Inv-loop : tie.InvT-loop
-Inv-loop table₀ n f size m₀ table m = (size ≡ 2 ^ n) × (size ≤ 65536) × (m ≤ size) × (length table ≡ length table₀) × Done f m table × Blank f m table
+Inv-loop table₀ n f size m₀ table m =
+    (size ≡ 2 ^ n) × (size ≤ 65536) × (m ≤ size) × (length table ≡ length table₀) × Done f m table × Blank f m table
 
 abbrev μ-loop : tie.MeasureT-loop
 μ-loop table₀ n f size m₀ table m = size - m
@@ -27,7 +28,8 @@ put-requires c κs =
     let l = c .before .before .before .before in
     let b = l .before .before .before in
     let s = b .before .before .before in
-    inside (l .loop .m) (s .args .n) _ _ _ (l .loop .inv .0) (c .before .before .before .loop-test .taken) (l .loop .inv .3 ∙ b .fill .kept .1 .0) (s .pre .1)
+    inside (l .loop .m) (s .args .n) _ _ _ (l .loop .inv .0) (c .before .before .before .loop-test .taken)
+    (l .loop .inv .3 ∙ b .fill .kept .1 .0) (s .pre .1)
 
 loop-again : tie.Need-loop-again Inv-loop μ-loop
 loop-again c =
@@ -43,9 +45,11 @@ loop-again c =
     ⊎-elim
     (λ w.
     let e = w .5 ∙ w .2 .ensures in
-    (v .0, v .1, search needs, ap length (w .5) ∙ w .2 .kept .0 ∙ v .3, done-put f m t (v .5) (v .4) _ k i _ e (w .0 .taken), blank-put f m t (v .5) (v .4) _ k i _ e))
+    let z = ap length (w .5) ∙ w .2 .kept .0 ∙ v .3 in
+    (v .0, v .1, search needs, z, done-put f m t (v .5) (v .4) _ k i _ e (w .0 .taken), blank-put f m t (v .5) (v .4) _ k i _ e))
     (λ w.
-    (v .0, v .1, search needs, ap length (w .1) ∙ v .3, done-leave f m t (v .5) (v .4) _ k _ (w .1) (w .0 .left), blank-leave f m t (v .5) _ (w .1)))
+    let z = ap length (w .1) ∙ v .3 in
+    (v .0, v .1, search needs, z, done-leave f m t (v .5) (v .4) _ k _ (w .1) (w .0 .left), blank-leave f m t (v .5) _ (w .1)))
     (c .if1 .came)
 
 pub exact-spec : {M : Type 1} → statement M

@@ -29,7 +29,10 @@ mark-probable-requires c κs =
     let e = d .before .before .before .before in
     let s = e .before .before .before .before .before in (
       s .pre .0,
-      (omega (arith, s .pre .1 .0, d .mark-domains .kept .0, e .exact .kept .0), (omega arith, (one-fine, s .pre .1 .1 .1 (c .before .if1 .taken)))),
+      (
+        omega (arith, s .pre .1 .0, d .mark-domains .kept .0, e .exact .kept .0),
+        (omega arith, (one-fine, s .pre .1 .1 .1 (c .before .if1 .taken))),
+      ),
     )
 
 returns : tie.Need-returns
@@ -44,7 +47,8 @@ returns c =
     let b : List ℕ = d .mark-domains .last .0 in
     flags-family (length ps) (a .f) (a .domains .now) (a .known) ps (a .threshold) (e .exact .last .0) b (m .mark-probable .last .0)
     (omega (arith, s .pre .1 .0, e .exact .kept .0)) (e .exact .ensures) (d .mark-domains .ensures)
-    (subst (λ (x : Bool). Marked (2 ^ length ps) (λ k. x && isHit ps 0 0 one (a .threshold) k) b (m .mark-probable .last .0)) (sym (m .before .before .if1 .taken)) (m .mark-probable .ensures))
+    (subst (λ (x : Bool). Marked (2 ^ length ps) (λ k. x && isHit ps 0 0 one (a .threshold) k) b (m .mark-probable .last .0))
+    (sym (m .before .before .if1 .taken)) (m .mark-probable .ensures))
 
 returns-2 : tie.Need-returns-2
 returns-2 c =
@@ -56,7 +60,8 @@ returns-2 c =
     let b : List ℕ = d .mark-domains .last .0 in
     flags-family (length ps) (a .f) (a .domains .now) (a .known) ps (a .threshold) (e .exact .last .0) b b
     (omega (arith, s .pre .1 .0, e .exact .kept .0)) (e .exact .ensures) (d .mark-domains .ensures)
-    (subst (λ (x : Bool). Marked (2 ^ length ps) (λ k. x && isHit ps 0 0 one (a .threshold) k) b b) (sym (c .if1 .left)) (marked-none (2 ^ length ps) (λ k. false) b (λ j l. refl)))
+    (subst (λ (x : Bool). Marked (2 ^ length ps) (λ k. x && isHit ps 0 0 one (a .threshold) k) b b)
+    (sym (c .if1 .left)) (marked-none (2 ^ length ps) (λ k. false) b (λ j l. refl)))
 
 pub flags-spec : {M : Type 1} → statement M
 flags-spec =

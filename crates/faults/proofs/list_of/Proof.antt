@@ -18,7 +18,8 @@ returns : tie.Need-returns
 returns c =
     let s = c .before .before .before .before .before in
     let a = s .args in
-    no-survivor (flagged (a .table .now)) (a .n) (a .list .now) (whole-set (a .n) (s .pre .0) (a .table .now) _ (c .before .has .ensures) _ (c .if1 .taken))
+    no-survivor (flagged (a .table .now)) (a .n) (a .list .now)
+    (whole-set (a .n) (s .pre .0) (a .table .now) _ (c .before .has .ensures) _ (c .if1 .taken))
 
 count-requires : tie.Need-count-requires
 count-requires c κs =
@@ -32,7 +33,8 @@ returns-2 c =
     let s = e .before .before .before .before .before in
     let a = s .args in
     let k : c .before .count .result ≡ length (maximals (flagged (a .table .now)) (a .n)) = c .before .count .ensures in
-    no-room (flagged (a .table .now)) (a .n) (a .list .now) (whole-set (a .n) (s .pre .0) (a .table .now) _ (e .before .has .ensures) _ (e .if1 .left)) (omega arith)
+    no-room (flagged (a .table .now)) (a .n) (a .list .now)
+    (whole-set (a .n) (s .pre .0) (a .table .now) _ (e .before .has .ensures) _ (e .if1 .left)) (omega arith)
 
 write-requires : tie.Need-write-requires
 write-requires c κs =

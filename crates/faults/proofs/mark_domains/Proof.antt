@@ -37,7 +37,8 @@ put-requires : tie.Need-put-requires Inv-loop μ-loop
 put-requires c κs =
     let l = c .before .before .before in
     let s = l .before .before .before in
-    omega (arith, inside (64 * length (s .args .table .now)) (l .loop .i) (s .args .domains .now) (s .pre) (c .before .before .loop-test .taken), l .loop .inv .1)
+    let i = inside (64 * length (s .args .table .now)) (l .loop .i) (s .args .domains .now) (s .pre) (c .before .before .loop-test .taken) in
+    omega (arith, i, l .loop .inv .1)
 
 loop-again : tie.Need-loop-again Inv-loop μ-loop
 loop-again c =
@@ -48,11 +49,12 @@ loop-again c =
     let ds : List ℕ = a .domains .now in
     let d : ℕ = getD ds (l .loop .i) 0 in
     let size : ℕ = 64 * length (a .table .now) in
-    let h = p .before .before .before .loop-test .taken in (
+    let h = p .before .before .before .loop-test .taken in
+    let i = inside size (l .loop .i) ds (s .pre) h in (
       search needs,
       p .put .kept .0 ∙ l .loop .inv .1,
       marked-then size (isAmong (take (l .loop .i) ds)) (λ m. eqb m d && true) _ (a .table .now) (l .loop .table) _ (l .loop .inv .2)
-          (marked-one size d true (l .loop .table) _ (omega (arith, inside size (l .loop .i) ds (s .pre) h, l .loop .inv .1)) (p .put .ensures) refl)
+          (marked-one size d true (l .loop .table) _ (omega (arith, i, l .loop .inv .1)) (p .put .ensures) refl)
           (λ m. among-more ds (l .loop .i) m h),
     )
 
@@ -60,7 +62,8 @@ returns : tie.Need-returns Inv-loop μ-loop
 returns c =
     let a = c .before .before .before .before .args in
     let l = c .before .loop in
-    subst (λ (ds : List ℕ). Marked (64 * length (a .table .now)) (isAmong ds) (a .table .now) (l .table)) (take-all (l .i) (a .domains .now) (omega arith)) (l .inv .2)
+    subst (λ (ds : List ℕ). Marked (64 * length (a .table .now)) (isAmong ds) (a .table .now) (l .table))
+    (take-all (l .i) (a .domains .now) (omega arith)) (l .inv .2)
 
 pub mark-domains-spec : {M : Type 1} → statement M
 mark-domains-spec =

@@ -35,5 +35,8 @@ count-spec =
     (λ c. search needs)
     (λ c.
     let l = c .before .before .before .loop in
-    ⊎-elim (λ w. (l .inv .0, l .inv .1, search needs, search needs, search count-yes)) (λ w. (l .inv .0, l .inv .1, search needs, search needs, search count-no)) (c .if1 .came))
+    ⊎-elim
+    (λ w. (l .inv .0, l .inv .1, search needs, search needs, search count-yes))
+    (λ w. (l .inv .0, l .inv .1, search needs, search needs, search count-no))
+    (c .if1 .came))
     (λ c. search count-done))

@@ -15,7 +15,8 @@ use Rattle.maximal.proofs.write.Tie as tie
 
 abbrev Inv-loop : tie.InvT-loop
 Inv-loop table over n list₀ size i₀ m₀ list i m =
-    (size ≡ 2 ^ n) × (size ≤ 65536) × (m ≤ size) × (i ≡ length (thoseBelow (isMaximal (flagged table) n) m)) × (list ≡ front (thoseBelow (isMaximal (flagged table) n) m) list₀)
+    (size ≡ 2 ^ n) × (size ≤ 65536) × (m ≤ size)
+    × (i ≡ length (thoseBelow (isMaximal (flagged table) n) m)) × (list ≡ front (thoseBelow (isMaximal (flagged table) n) m) list₀)
 
 abbrev μ-loop : tie.MeasureT-loop
 μ-loop table over n list₀ size i₀ m₀ list i m = size - m
@@ -42,6 +43,9 @@ write-spec =
     (λ c. search needs)
     (λ c.
     let l = c .before .before .before .loop in
-    ⊎-elim (λ w. (l .inv .0, l .inv .1, search needs, search count-yes, search write-yes)) (λ w. (l .inv .0, l .inv .1, search needs, search count-no, search write-no)) (c .if1 .came))
+    ⊎-elim
+    (λ w. (l .inv .0, l .inv .1, search needs, search count-yes, search write-yes))
+    (λ w. (l .inv .0, l .inv .1, search needs, search count-no, search write-no))
+    (c .if1 .came))
     (λ c. search same-length)
     (λ c. search write-done))
