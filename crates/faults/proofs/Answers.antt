@@ -1,4 +1,4 @@
--- The three ways to list the maximal sets of a family, and what the two tables that are lent for it are. Assumes nothing.
+-- The three ways to list the maximal sets of a family, and what the table that is lent for it is. Assumes nothing.
 use Prim.Native.Nat.{ℕ, _+_, _*_, _-_, _/_, _%_, _^_, _<_, _≤_}
 use native.Mathlib.Omega.{arith}
 use mathlib.Core.Path.{_≡_, sym, ap, _∙_}
@@ -10,7 +10,7 @@ use lib.Pow.{ones-lt, pow-mono, pow-pos}
 use lib.Seq.{length-take-le}
 use Rattle.lists.specs.Below.{front}
 use Rattle.bitmap.specs.Mask.{allBelow}
-use Rattle.bitmap.proofs.Words.{one-shl}
+use Rattle.marks.proofs.Sizes.{size-is}
 use Rattle.marks.specs.Marks.{flagged}
 use Rattle.refusals.specs.Numbers.{EVERY_REPLICA, ROOM}
 use Rattle.refusals.specs.Outcome.{refused, accepted}
@@ -46,30 +46,24 @@ module _ (f g : ℕ → Bool) (n : ℕ) (h : (k : ℕ) → k < 2 ^ n → f k ≡
 
 -- ---- `1 << n`, and the words that hold as many bits
 module _ (n : ℕ) (h : n ≤ 16) where
-  pub size-is : 1 * 2 ^ n % 2 ^ 64 ≡ 2 ^ n
-  size-is = one-shl 64 n (omega arith)
-
-  pub size-small : 1 * 2 ^ n % 2 ^ 64 ≤ 65536
-  size-small = let t : 2 ^ n ≤ 2 ^ 16 = pow-mono h in omega (arith, size-is)
-
   pub last-set : (t : List ℕ) → 2 ^ n ≤ 64 * length t → 1 * 2 ^ n % 2 ^ 64 - 1 < 64 * length t
-  last-set t e = omega (arith, size-is, pow-pos n)
+  last-set t e = omega (arith, size-is n h, pow-pos n)
 
   -- its flag is that of the set of all replicas
   pub whole-set : (t : List ℕ) (r : Bool) → r ≡ flagged t (1 * 2 ^ n % 2 ^ 64 - 1) → (b : Bool) → r ≡ b → flagged t (allBelow n) ≡ b
-  whole-set t r e b q = ap (λ (x : ℕ). flagged t (x - 1)) (sym size-is) ∙ sym e ∙ q
+  whole-set t r e b q = ap (λ (x : ℕ). flagged t (x - 1)) (sym (size-is n h)) ∙ sym e ∙ q
 
   module _ (l : List ℕ) (e : 2 ^ n ≤ 64 * length l) where
     pub inside : (1 * 2 ^ n % 2 ^ 64 + 63) / 64 ≤ length l
-    inside = omega (arith, size-is)
+    inside = omega (arith, size-is n h)
 
     pub counted : (1 * 2 ^ n % 2 ^ 64 + 63) / 64 ≡ length (take ((1 * 2 ^ n % 2 ^ 64 + 63) / 64) l)
     counted = sym (length-take-le ((1 * 2 ^ n % 2 ^ 64 + 63) / 64) l inside)
 
     pub enough : 2 ^ n ≤ 64 * length (take ((1 * 2 ^ n % 2 ^ 64 + 63) / 64) l)
-    enough = omega (arith, size-is, counted)
+    enough = omega (arith, size-is n h, counted)
 
--- tables of 4 and of 1024 words have as many
+-- tables of 4 and of 1,024 words have as many
 pub small-holds : (n : ℕ) (l : List ℕ) → n ≤ 8 → length l ≡ 4 → 2 ^ n ≤ 64 * length l
 small-holds n l h e = omega (arith, pow-mono h)
 

@@ -46,7 +46,7 @@ fn input_refusal(n: usize, f: usize, p: Profile) -> u8
     profiles::profile_refusal(n, p)
 }
 
-// The fault list of at most 8 replicas: tables of 256 bits, so that a small population does not clear those of a large one.
+// The fault list of at most 8 replicas: a table of 256 bits, so that a small population does not clear that of a large one.
 fn small(n: usize, f: usize, p: Profile, list: &mut [u64]) -> Listed
     requires { ⌜ n ≤ 8 ⌝ }
     requires { ⌜ Accepted n p ⌝ }
@@ -54,11 +54,10 @@ fn small(n: usize, f: usize, p: Profile, list: &mut [u64]) -> Listed
     ensures words { λ r. ⌜ now (list .exit) ≡ listWords (family n f p) n (now (list .entry)) ⌝ }
 {
     let mut table = blank_small();
-    let mut over = blank_small();
-    with_tables(n, f, p, &mut table, &mut over, list)
+    with_table(n, f, p, &mut table, list)
 }
 
-// The fault list of at most 16 replicas: tables of 65,536 bits, 16 KiB in all.
+// The fault list of at most 16 replicas: a table of 65,536 bits, 8 KiB.
 fn large(n: usize, f: usize, p: Profile, list: &mut [u64]) -> Listed
     requires { ⌜ n ≤ 16 ⌝ }
     requires { ⌜ Accepted n p ⌝ }
@@ -66,22 +65,13 @@ fn large(n: usize, f: usize, p: Profile, list: &mut [u64]) -> Listed
     ensures words { λ r. ⌜ now (list .exit) ≡ listWords (family n f p) n (now (list .entry)) ⌝ }
 {
     let mut table = blank_large();
-    let mut over = blank_large();
-    with_tables(n, f, p, &mut table, &mut over, list)
+    with_table(n, f, p, &mut table, list)
 }
 
-// The fault list, with two tables to work in of at least 2^n bits each; the words that hold so many are used.
-fn with_tables(
-    n: usize,
-    f: usize,
-    p: Profile,
-    table: &mut [u64],
-    over: &mut [u64],
-    list: &mut [u64],
-) -> Listed
+// The fault list, with a table to work in of at least 2^n bits; the words that hold so many are used.
+fn with_table(n: usize, f: usize, p: Profile, table: &mut [u64], list: &mut [u64]) -> Listed
     requires { ⌜ n ≤ 16 ⌝ }
     requires { ⌜ 2 ^ n ≤ 64 * length (now table) ⌝ }
-    requires { ⌜ 2 ^ n ≤ 64 * length (now over) ⌝ }
     requires { ⌜ Accepted n p ⌝ }
     ensures answer { λ r. ⌜ answer r ≡ listAnswer (family n f p) n (length (now (list .entry))) ⌝ }
     ensures words { λ r. ⌜ now (list .exit) ≡ listWords (family n f p) n (now (list .entry)) ⌝ }
@@ -99,7 +89,6 @@ fn with_tables(
         &probs[..n],
         p.threshold,
         &mut table[..words],
-        &mut over[..words],
         list,
     )
 }
@@ -117,7 +106,7 @@ fn blank_large() -> [u64; 1024]
     [0u64; 1024]
 }
 
-// The fault list, with two tables of 2^n bits.
+// The fault list, with a table of 2^n bits.
 fn build(
     n: usize,
     f: usize,
@@ -126,27 +115,24 @@ fn build(
     probs: &[f64],
     threshold: f64,
     table: &mut [u64],
-    over: &mut [u64],
     list: &mut [u64],
 ) -> Listed
     requires { ⌜ n ≤ 16 ⌝ }
     requires { ⌜ length (now probs) ≡ n ⌝ }
     requires { ⌜ 2 ^ n ≤ 64 * length (now table) ⌝ }
-    requires { ⌜ length (now over) ≡ length (now table) ⌝ }
     requires { ⌜ all (isMask n) (now domains) ≡ true ⌝ }
     requires { ⌜ (known ≡ true → all isProbability (now probs) ≡ true) ⌝ }
     ensures answer { λ r. ⌜ answer r ≡ listAnswer (familyOf f (now (domains .entry)) known (now (probs .entry)) threshold) n (length (now (list .entry))) ⌝ }
     ensures words { λ r. ⌜ now (list .exit) ≡ listWords (familyOf f (now (domains .entry)) known (now (probs .entry)) threshold) n (now (list .entry)) ⌝ }
 {
     flags(table, f, domains, known, probs, threshold);
-    list_of(table, over, n, list)
+    list_of(table, n, list)
 }
 
-// Lists the maximal sets of the family that `table` flags.
-fn list_of(table: &[u64], over: &mut [u64], n: usize, list: &mut [u64]) -> Listed
+// Lists the maximal sets of the family that `table` flags, and leaves them alone flagged there.
+fn list_of(table: &mut [u64], n: usize, list: &mut [u64]) -> Listed
     requires { ⌜ n ≤ 16 ⌝ }
     requires { ⌜ 2 ^ n ≤ 64 * length (now table) ⌝ }
-    requires { ⌜ length (now over) ≡ length (now table) ⌝ }
     ensures answer { λ r. ⌜ answer r ≡ listAnswer (flagged (now (table .entry))) n (length (now (list .entry))) ⌝ }
     ensures words { λ r. ⌜ now (list .exit) ≡ listWords (flagged (now (table .entry))) n (now (list .entry)) ⌝ }
 {
@@ -154,12 +140,12 @@ fn list_of(table: &[u64], over: &mut [u64], n: usize, list: &mut [u64]) -> Liste
     if marks::has(table, all) {
         return Listed::Refused(refusals::EVERY_REPLICA);
     }
-    maximal::cover(table, over, n);
-    let c = maximal::count(table, over, n);
+    maximal::keep(table, n);
+    let c = marks::count(table, n);
     if list.len() < c {
         return Listed::Refused(refusals::ROOM);
     }
-    maximal::write(table, over, n, list);
+    marks::write(table, n, list);
     Listed::Count(c)
 }
 

@@ -1,2 +1,3 @@
--- Worked values.
+-- How many sets there are, and worked values.
+pub mod Sizes
 pub mod Examples

@@ -1,4 +1,4 @@
--- What is flagged in a table of bits after a word of it gets more bits, and after a set is flagged. Assumes nothing.
+-- What is flagged in a table of bits: after a word is stored, after a set is flagged, in a table of zeros and past the end. Assumes nothing.
 use Prim.Native.Nat.{ℕ, zero, suc, _*_, _/_, _%_, _^_, _<_, _≤_}
 use native.Mathlib.Decide.{ℕ-discrete}
 use native.Mathlib.Omega.{arith}
@@ -8,56 +8,50 @@ use mathlib.Core.List.{List}
 use borrow.Author.Tests.{eq-eqb, ne-eqb}
 use lib.Bits.{bitOr}
 use lib.Dec.{eqb}
-use lib.ListN.{length, getD, set, length-set, replicate, List·getD-eq-default}
+use lib.ListN.{length, getD, set, replicate, List·getD-eq-default}
 use lib.Seq.{getD-set-same, getD-set-other}
 use Rattle.bitmap.specs.Mask.{hasBit}
 use Rattle.bitmap.specs.MaskLaws.{has-or, bit-same, bit-other, bit-none}
 use Rattle.marks.specs.Marks.{flagged, withFlag}
 
--- the word k gets the bits of w
-pub flagged-union : (t : List ℕ) (k w m : ℕ) → k < length t
-    → flagged (set t k (bitOr (getD t k 0) w)) m ≡ (flagged t m || (eqb (m / 64) k && hasBit w (m % 64)))
+-- a word is stored: its sets are those of the word, and the others as they were
+pub flagged-here : (t : List ℕ) (k w m : ℕ) → k < length t → m / 64 ≡ k → flagged (set t k w) m ≡ hasBit w (m % 64)
 unfolding flagged
-flagged-union t k w m h = go (ℕ-discrete (m / 64) k)
-  where
-    last : (x : Bool) → x ≡ (x || false)
-    last true = refl
-    last false = refl
+flagged-here t k w m h e = rw (e, getD-set-same t k w 0 h)
 
-    go : Dec (m / 64 ≡ k)
-        → hasBit (getD (set t k (bitOr (getD t k 0) w)) (m / 64) 0) (m % 64)
-        ≡ (hasBit (getD t (m / 64) 0) (m % 64) || (eqb (m / 64) k && hasBit w (m % 64)))
-    go (yes e) = rw (eq-eqb (m / 64) k e, e, getD-set-same t k (bitOr (getD t k 0) w) 0 h) (has-or (getD t k 0) w (m % 64))
-    go (no d) =
-        rw (ne-eqb (m / 64) k d, getD-set-other t k (m / 64) (bitOr (getD t k 0) w) 0 d) (last (hasBit (getD t (m / 64) 0) (m % 64)))
+pub flagged-elsewhere : (t : List ℕ) (k w m : ℕ) → (m / 64 ≡ k → ⊥) → flagged (set t k w) m ≡ flagged t m
+unfolding flagged
+flagged-elsewhere t k w m d = rw (getD-set-other t k (m / 64) w 0 d)
+
+-- it gets the bits of w
+pub flagged-union : (t : List ℕ) (k w m : ℕ) → k < length t → m / 64 ≡ k
+    → flagged (set t k (bitOr (getD t k 0) w)) m ≡ (flagged t m || hasBit w (m % 64))
+unfolding flagged
+flagged-union t k w m h e = flagged-here t k (bitOr (getD t k 0) w) m h e ∙ rw e (has-or (getD t k 0) w (m % 64))
 
 -- the set m is flagged: it is, and what was
 pub flagged-with : (t : List ℕ) (m k : ℕ) → m < 64 * length t → flagged (withFlag t m) k ≡ (eqb k m || flagged t k)
 unfolding withFlag
-flagged-with t m k h = flagged-union t (m / 64) (2 ^ (m % 64)) k (omega arith) ∙ go (ℕ-discrete k m) (flagged t k)
+flagged-with t m k h = go (ℕ-discrete (k / 64) (m / 64)) (ℕ-discrete k m)
   where
-    swap : (x : Bool) → (x || true) ≡ true
-    swap true = refl
-    swap false = refl
+    next : List ℕ
+    next = set t (m / 64) (bitOr (getD t (m / 64) 0) (2 ^ (m % 64)))
 
-    gone : (x y : Bool) → y ≡ false → (x || y) ≡ x
-    gone true y e = refl
-    gone false y e = e
+    yes-or : (x : Bool) → (x || true) ≡ true
+    yes-or true = refl
+    yes-or false = refl
 
-    other : (k ≡ m → ⊥) → (eqb (k / 64) (m / 64) && hasBit (2 ^ (m % 64)) (k % 64)) ≡ false
-    other d = there (ℕ-discrete (k / 64) (m / 64))
-      where
-        there : Dec (k / 64 ≡ m / 64) → (eqb (k / 64) (m / 64) && hasBit (2 ^ (m % 64)) (k % 64)) ≡ false
-        there (yes e) = rw (eq-eqb (k / 64) (m / 64) e, bit-other (m % 64) (k % 64) (λ (q : k % 64 ≡ m % 64). d (omega arith)))
-        there (no e) = rw (ne-eqb (k / 64) (m / 64) e)
+    no-or : (x : Bool) → (x || false) ≡ x
+    no-or true = refl
+    no-or false = refl
 
-    go : Dec (k ≡ m) → (x : Bool) → (x || (eqb (k / 64) (m / 64) && hasBit (2 ^ (m % 64)) (k % 64))) ≡ (eqb k m || x)
-    go (yes e) x = rw (e, eq-eqb (m / 64) (m / 64) refl, bit-same (m % 64), eq-eqb m m refl) (swap x)
-    go (no d) x = rw (ne-eqb k m d) (gone x _ (other d))
-
-pub with-length : (t : List ℕ) (m : ℕ) → length (withFlag t m) ≡ length t
-unfolding withFlag
-with-length t m = simp length-set
+    go : Dec (k / 64 ≡ m / 64) → Dec (k ≡ m) → flagged next k ≡ (eqb k m || flagged t k)
+    go (no d) (yes q) = absurd (d (ap (λ (x : ℕ). x / 64) q))
+    go (no d) (no q) = flagged-elsewhere t (m / 64) _ k d ∙ rw (ne-eqb k m q)
+    go (yes e) (yes q) = flagged-union t (m / 64) (2 ^ (m % 64)) k (omega arith) e ∙ rw (q, bit-same (m % 64), eq-eqb m m refl) (yes-or (flagged t m))
+    go (yes e) (no q) =
+        flagged-union t (m / 64) (2 ^ (m % 64)) k (omega arith) e
+        ∙ rw (ne-eqb k m q, bit-other (m % 64) (k % 64) (λ (z : k % 64 ≡ m % 64). q (omega arith))) (no-or (flagged t k))
 
 -- a table of zeros flags none
 pub none-flagged : (k m : ℕ) → flagged (replicate k 0) m ≡ false

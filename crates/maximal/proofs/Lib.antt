@@ -1,5 +1,4 @@
--- The laws of the passes over the replicas, and worked values.
+-- The laws of the passes, and worked values.
 pub mod Supersets
 pub mod Passes
-pub mod Flags
 pub mod Examples

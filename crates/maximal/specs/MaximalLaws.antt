@@ -12,9 +12,12 @@ use lib.Dec.{eqb, ltb}
 use lib.ListN.{length}
 use Rattle.bitmap.specs.Mask.{bit}
 use Rattle.bitmap.specs.MaskLaws.{Within, bit-and, same-bits}
+use Rattle.lists.specs.Below.{thoseBelow}
 use Rattle.lists.specs.BelowLaws.{some-below-means, some-below-same, those-below-means, those-below-rising, those-below-same}
 use Rattle.lists.specs.SortLaws.{Ordered}
+use Rattle.marks.specs.Marks.{flagged}
 use Rattle.maximal.specs.Maximal.{isPart, isBeyond, isCoveredBy, isMaximal, maximals}
+use Rattle.maximal.specs.Tables.{Flags}
 
 -- ---- parts
 
@@ -130,3 +133,9 @@ unfolding maximals isMaximal isCoveredBy
 maximals-same f g n h =
     those-below-same (isMaximal f n) (isMaximal g n) (2 ^ n)
     (λ m l. rw (h m l, some-below-same (λ (s : ℕ). f s && isBeyond m s) (λ (s : ℕ). g s && isBeyond m s) (2 ^ n) (λ s i. rw (h s i))))
+
+-- ---- a table that flags the maximal members alone lists them
+
+pub kept-list : (g : ℕ → Bool) (n : ℕ) (t : List ℕ) → Flags n (isMaximal g n) t → thoseBelow (flagged t) (2 ^ n) ≡ maximals g n
+unfolding Flags maximals
+kept-list g n t h = those-below-same (flagged t) (isMaximal g n) (2 ^ n) h

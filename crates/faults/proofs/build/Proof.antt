@@ -17,21 +17,21 @@ use Rattle.faults.proofs.build.Tie as tie
 
 flags-requires : tie.Need-flags-requires
 flags-requires c κs =
-    let s = c .before .before .before .before .before .before in
+    let s = c .before .before .before .before .before in
     let a = s .args in
     let e : a .n ≡ length (a .probs .now) = sym (s .pre .1 .0) in (
       subst (λ (x : ℕ). x ≤ 16) e (s .pre .0),
       (
         subst (λ (x : ℕ). 2 ^ x ≤ 64 * length (a .table .now)) e (s .pre .1 .1 .0),
-        (subst (λ (x : ℕ). all (isMask x) (a .domains .now) ≡ true) e (s .pre .1 .1 .1 .1 .0), s .pre .1 .1 .1 .1 .1),
+        (subst (λ (x : ℕ). all (isMask x) (a .domains .now) ≡ true) e (s .pre .1 .1 .1 .0), s .pre .1 .1 .1 .1),
       ),
     )
 
 returns : tie.Need-returns
 unfolding Flags
 returns c =
-    let v = c .before .before .before .before .before .before .before .before .before .before in
-    let s = v .before .before .before .before .before .before .before in
+    let v = c .before .before .before .before .before .before .before .before .before in
+    let s = v .before .before .before .before .before .before in
     let a = s .args in
     let g : ℕ → Bool = familyOf (a .f) (a .domains .now) (a .known) (a .probs .now) (a .threshold) in
     let t : List ℕ = v .flags .last .0 in
@@ -46,7 +46,6 @@ build-spec =
     (tie.spec
     flags-requires
     (λ c κs. search needs)
-    (λ c. search needs)
     (λ c. search needs)
     (λ c. search needs)
     returns)

@@ -7,7 +7,7 @@ use borrow.Author.Needs.{needs}
 use borrow.Author.Count.{below-none}
 use lib.ListN.{length}
 use Rattle.maximal.specs.Tables.{Flags}
-use Rattle.faults.proofs.Answers.{size-is, size-small}
+use Rattle.marks.proofs.Sizes.{size-is, size-small}
 use Rattle.faults.proofs.Marks.{Done, Blank, blank-first, blank-leave, blank-put, done-leave, done-put}
 use Rattle.faults.proofs.exact.Statement.{statement}
 use Rattle.faults.proofs.exact.Tie as tie

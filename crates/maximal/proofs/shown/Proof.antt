@@ -10,8 +10,6 @@ shown-spec =
     (tie.spec
     (λ c. search needs)
     (λ c. search needs)
-    (λ c. search needs)
-    (λ c. search needs)
     (λ c κs. search needs)
     (λ c. search near-shows)
     (λ c. search needs)
@@ -19,9 +17,6 @@ shown-spec =
     (λ c. search far-none)
     (λ c. search needs)
     (λ c. search far-past)
-    (λ c. search needs)
-    (λ c. search needs)
-    (λ c. search needs)
     (λ c. search needs)
     (λ c. search needs)
     (λ c. search needs)

@@ -8,10 +8,10 @@ use Rattle.maximal.proofs.spread.Statement.{statement}
 use Rattle.maximal.proofs.spread.Tie as tie
 
 abbrev Inv-loop : tie.InvT-loop
-Inv-loop table over₀ b k₀ over k = (k ≤ length over) × (length over ≡ length over₀) × Done table over₀ b over k × Left table over₀ b over k
+Inv-loop table₀ b k₀ table k = (k ≤ length table) × (length table ≡ length table₀) × Done table₀ b table k × Left table₀ table k
 
 abbrev μ-loop : tie.MeasureT-loop
-μ-loop table over₀ b k₀ over k = length over₀ - k
+μ-loop table₀ b k₀ table k = length table₀ - k
 
 pub spread-spec : {M : Type 1} → statement M
 spread-spec =

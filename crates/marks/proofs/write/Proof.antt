@@ -1,4 +1,4 @@
--- `maximal::write` meets its contract. The loop's invariant: i counts those below m, and they are at the front of the list. Assumes nothing.
+-- `marks::write` meets its contract. The loop's invariant: i counts those below m, and they are at the front of the list. Assumes nothing.
 use Prim.Native.Nat.{_≤_, _<_, _-_, _^_}
 use mathlib.Core.Path.{_≡_}
 use mathlib.Core.Logic.{⊎-elim}
@@ -7,27 +7,24 @@ use borrow.Author.Needs.{needs}
 use lib.ListN.{length}
 use Rattle.lists.specs.Below.{thoseBelow, front}
 use Rattle.lists.proofs.BelowLoops.{count-none, count-yes, count-no, write-none, write-yes, write-no, write-done, room, room-now, same-length}
 use Rattle.marks.specs.Marks.{flagged}
-use Rattle.maximal.specs.Maximal.{isMaximal, maximals}
-use Rattle.maximal.proofs.Flags.{size-is, size-small}
-use Rattle.maximal.proofs.write.Statement.{statement}
-use Rattle.maximal.proofs.write.Tie as tie
+use Rattle.marks.proofs.Sizes.{size-is, size-small, has-bit}
+use Rattle.marks.proofs.write.Statement.{statement}
+use Rattle.marks.proofs.write.Tie as tie
 
 abbrev Inv-loop : tie.InvT-loop
-Inv-loop table over n list₀ size i₀ m₀ list i m =
+Inv-loop table n list₀ size i₀ m₀ list i m =
     (size ≡ 2 ^ n) × (size ≤ 65536) × (m ≤ size)
-    × (i ≡ length (thoseBelow (isMaximal (flagged table) n) m)) × (list ≡ front (thoseBelow (isMaximal (flagged table) n) m) list₀)
+    × (i ≡ length (thoseBelow (flagged table) m)) × (list ≡ front (thoseBelow (flagged table) m) list₀)
 
 abbrev μ-loop : tie.MeasureT-loop
-μ-loop table over n list₀ size i₀ m₀ list i m = size - m
+μ-loop table n list₀ size i₀ m₀ list i m = size - m
 
 -- where a set is written there is room for it
-room-at : (c : tie.Then1 Inv-loop μ-loop) → c .before .before .before .loop .i < length (c .before .before .before .before .before .before .before .args .list .now)
-unfolding maximals
+room-at : (c : tie.Then1 Inv-loop μ-loop) → c .before .before .before .loop .i < length (c .before .before .before .before .before .before .args .list .now)
 room-at c = search room
 
 pub write-spec : {M : Type 1} → statement M
-unfolding maximals
 write-spec =
     tie.close
     (tie.spec
@@ -35,7 +32,7 @@ write-spec =
     μ-loop
     (λ c. search needs)
     (λ c. (search size-is, search size-small, search needs, search count-none, search write-none))
-    (λ c κs. let l = c .before .loop in (search needs, (search needs, (omega (arith, l .inv .0, c .loop-test .taken), search needs))))
+    (λ c κs. search has-bit)
     (λ c. let h = room-at c in omega arith)
     (λ c. search room-now)
     (λ c. let h = room-at c in omega arith)

@@ -1,27 +1,24 @@
--- `maximal::count` meets its contract. The loop's invariant: c counts those below m. Assumes nothing.
+-- `marks::count` meets its contract. The loop's invariant: c counts those below m. Assumes nothing.
 use Prim.Native.Nat.{_≤_, _-_, _^_}
 use mathlib.Core.Path.{_≡_}
 use mathlib.Core.Logic.{⊎-elim}
-use native.Mathlib.Omega.{arith}
 use borrow.Author.Needs.{needs}
 use lib.ListN.{length}
 use Rattle.lists.specs.Below.{thoseBelow}
 use Rattle.lists.proofs.BelowLoops.{count-none, count-yes, count-no, count-done}
 use Rattle.marks.specs.Marks.{flagged}
-use Rattle.maximal.specs.Maximal.{isMaximal, maximals}
-use Rattle.maximal.proofs.Flags.{size-is, size-small}
-use Rattle.maximal.proofs.count.Statement.{statement}
-use Rattle.maximal.proofs.count.Tie as tie
+use Rattle.marks.proofs.Sizes.{size-is, size-small, has-bit}
+use Rattle.marks.proofs.count.Statement.{statement}
+use Rattle.marks.proofs.count.Tie as tie
 
 abbrev Inv-loop : tie.InvT-loop
-Inv-loop table over n size c₀ m₀ c m =
-    (size ≡ 2 ^ n) × (size ≤ 65536) × (m ≤ size) × (c ≤ m) × (c ≡ length (thoseBelow (isMaximal (flagged table) n) m))
+Inv-loop table n size c₀ m₀ c m =
+    (size ≡ 2 ^ n) × (size ≤ 65536) × (m ≤ size) × (c ≤ m) × (c ≡ length (thoseBelow (flagged table) m))
 
 abbrev μ-loop : tie.MeasureT-loop
-μ-loop table over n size c₀ m₀ c m = size - m
+μ-loop table n size c₀ m₀ c m = size - m
 
 pub count-spec : {M : Type 1} → statement M
-unfolding maximals
 count-spec =
     tie.close
     (tie.spec
@@ -29,7 +26,7 @@ count-spec =
     μ-loop
     (λ c. search needs)
     (λ c. (search size-is, search size-small, search needs, search needs, search count-none))
-    (λ c κs. let l = c .before .loop in (search needs, (search needs, (omega (arith, l .inv .0, c .loop-test .taken), search needs))))
+    (λ c κs. search has-bit)
     (λ c. search needs)
     (λ c. search needs)
     (λ c. search needs)
