@@ -55,7 +55,7 @@ or-means a b s = (go (bit a s) refl, ⊎-elim (λ p. omega (arith, bit-or a b s)
     go zero q e = inr (omega (arith, bit-or a b s))
     go (suc x) q e = inl (omega arith)
 
--- and so the test of one
+-- and so for the tests
 pub has-or : (a b s : ℕ) → hasBit (bitOr a b) s ≡ (hasBit a s || hasBit b s)
 has-or a b s = go (ℕ-discrete (bit a s) 1)
   where
@@ -63,7 +63,7 @@ has-or a b s = go (ℕ-discrete (bit a s) 1)
     go (yes p) = rw (eq-eqb (bit (bitOr a b) s) 1 (omega (arith, bit-or a b s)), eq-eqb (bit a s) 1 p)
     go (no p) = let e : bit (bitOr a b) s ≡ bit b s = omega (arith, bit-or a b s) in rw (e, ne-eqb (bit a s) 1 p)
 
--- the members of a that are none of b: a without what the two share
+-- where two masks differ
 xor-low : (a b : ℕ) → bitXor a b % 2 ≡ differ (a % 2) (b % 2)
 xor-low a b = go (a % 2) (b % 2) (mod-lt a (zero-lt-suc 1)) (mod-lt b (zero-lt-suc 1)) (xor-step a b)
   where
@@ -79,6 +79,7 @@ xor-low a b = go (a % 2) (b % 2) (mod-lt a (zero-lt-suc 1)) (mod-lt b (zero-lt-s
 pub bit-xor : (a b s : ℕ) → bit (bitXor a b) s ≡ differ (bit a s) (bit b s)
 bit-xor a b s = ap (λ (x : ℕ). x % 2) (xor-shr a b s) ∙ xor-low (a / 2 ^ s) (b / 2 ^ s)
 
+-- the members of a that are none of b: a differs there from what the two share
 pub has-except : (a b s : ℕ) → hasBit (bitXor a (bitAnd a b)) s ≡ (hasBit a s && not (hasBit b s))
 has-except a b s = rw (bit-xor a (bitAnd a b) s, bit-and a b s) (go (bit a s) (bit b s) (bit-lt a s) (bit-lt b s))
   where

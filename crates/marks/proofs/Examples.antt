@@ -1,6 +1,6 @@
 -- Worked tables of two words, computed by the checker. Assumes nothing.
 use mathlib.Core.Path.{_≡_, refl}
-use mathlib.Core.Bool.{Bool, true, false}
+use mathlib.Core.Bool.{true, false}
 use mathlib.Core.List.{List, [], _∷_, map}
 use Prim.Native.Nat.{ℕ}
 use Rattle.marks.specs.Marks.{flagged, withFlag}

@@ -1,9 +1,9 @@
--- What is flagged in a table of bits: after a word is stored, after a set is flagged, in a table of zeros and past the end. Assumes nothing.
+-- What is flagged in a table of bits: where a word is stored, where a set is flagged, in a table of zeros, past the end. Assumes nothing.
 use Prim.Native.Nat.{ℕ, zero, suc, _*_, _/_, _%_, _^_, _<_, _≤_}
 use native.Mathlib.Decide.{ℕ-discrete}
 use native.Mathlib.Omega.{arith}
 use mathlib.Core.Path.{_≡_, refl, ap, _∙_}
-use mathlib.Core.Bool.{Bool, true, false, _&&_, _||_}
+use mathlib.Core.Bool.{Bool, true, false, _||_}
 use mathlib.Core.List.{List}
 use borrow.Author.Tests.{eq-eqb, ne-eqb}
 use lib.Bits.{bitOr}
@@ -48,7 +48,9 @@ flagged-with t m k h = go (ℕ-discrete (k / 64) (m / 64)) (ℕ-discrete k m)
     go : Dec (k / 64 ≡ m / 64) → Dec (k ≡ m) → flagged next k ≡ (eqb k m || flagged t k)
     go (no d) (yes q) = absurd (d (ap (λ (x : ℕ). x / 64) q))
     go (no d) (no q) = flagged-elsewhere t (m / 64) _ k d ∙ rw (ne-eqb k m q)
-    go (yes e) (yes q) = flagged-union t (m / 64) (2 ^ (m % 64)) k (omega arith) e ∙ rw (q, bit-same (m % 64), eq-eqb m m refl) (yes-or (flagged t m))
+    go (yes e) (yes q) =
+        flagged-union t (m / 64) (2 ^ (m % 64)) k (omega arith) e
+        ∙ rw (q, bit-same (m % 64), eq-eqb m m refl) (yes-or (flagged t m))
     go (yes e) (no q) =
         flagged-union t (m / 64) (2 ^ (m % 64)) k (omega arith) e
         ∙ rw (ne-eqb k m q, bit-other (m % 64) (k % 64) (λ (z : k % 64 ≡ m % 64). q (omega arith))) (no-or (flagged t k))

@@ -1,5 +1,5 @@
--- The pass over one replica, word by word, the passes one after another, and the last one. The premises of each law are the fields of a need's record, so
--- that `search` finds them. Assumes nothing.
+-- The pass over one replica, word by word, the passes one after another, and the last one. The premises of each law are the fields of a
+-- need's record, so that `search` finds them. Assumes nothing.
 use Prim.Native.Nat.{ℕ, _+_, _-_, _*_, _/_, _%_, _^_, _<_, _≤_, min}
 use native.Mathlib.Decide.{ℕ-discrete, decLt}
 use native.Mathlib.Numerals.{add-one}
@@ -187,8 +187,9 @@ module _ (before : List ℕ) where
           where
             go : Dec (m / 64 ≡ k) → flagged (set after k w) m ≡ isTop n before m
             go (yes e) =
+                let same : (b : ℕ) → b < n → isShown after m b ≡ isShown before m b = λ b l. shown-same after k left b m (omega arith) in
                 flagged-here after k w m inside e ∙ tops m e
-                ∙ rw (left m (omega arith), some-below-same (isShown after m) (isShown before m) n (λ b l. shown-same after k left b m (omega arith)))
+                ∙ rw (left m (omega arith), some-below-same (isShown after m) (isShown before m) n same)
             go (no d) = flagged-elsewhere after k w m d ∙ done m (omega arith)
 
         pub rest-left : Left (set after k w) (k + 1)

@@ -1,6 +1,6 @@
--- The supersets of a set that have further members below b alone, what the pass over the replica b adds to them, and which sets are maximal by
--- the sets with one member more. Assumes nothing.
-use Prim.Native.Nat.{ℕ, _+_, _*_, _/_, _%_, _^_, _<_, _≤_, max}
+-- The supersets of a set that have further members below b alone, what the pass over the replica b adds to them, and when a set is maximal,
+-- by the sets with one member more. Assumes nothing.
+use Prim.Native.Nat.{ℕ, _+_, _/_, _^_, _<_, _≤_, max}
 use native.Mathlib.Omega.{arith}
 use native.Mathlib.Nat.{le-trans, div-one, div-eq-of-lt, mod-lt}
 use native.Mathlib.Decide.{ℕ-discrete, decLt}
@@ -221,7 +221,8 @@ module _ (g : ℕ → Bool) (n : ℕ) where
             let i : flagged table (m + 2 ^ b) ≡ true =
             at (m + 2 ^ b) (more-lt m b z n (f .small) l)
             ∙ within-means (m + 2 ^ b) .1 (record { set = s; small = h; member = e; holds = more-within m b z s w o }) in
-            absurd (true≢false (sym (and-eq-true-iff (isLacking b m) (flagged table (m + 2 ^ b)) .1 (eq-eqb (bit m b) 0 z, i)) ∙ none-below-means (isShown table m) n .0 none b (f .small)))
+            let u = and-eq-true-iff (isLacking b m) (flagged table (m + 2 ^ b)) .1 (eq-eqb (bit m b) 0 z, i) in
+            absurd (true≢false (sym u ∙ none-below-means (isShown table m) n .0 none b (f .small)))
 
     unshown : Alone g n m → someBelow (isShown table m) n ≡ false
     unshown h = none-below-means (isShown table m) n .1 (λ b i. go b i (isShown table m b) refl)

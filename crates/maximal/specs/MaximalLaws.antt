@@ -4,12 +4,11 @@ use native.Mathlib.Omega.{arith}
 use native.Mathlib.Nat.{le-trans}
 use mathlib.Core.Path.{_≡_, refl, sym, ap, subst, _∙_}
 use mathlib.Core.Logic.{_↔_}
-use mathlib.Core.Bool.{Bool, true, false, not, _&&_, cond, and-eq-true-iff, true≢false}
+use mathlib.Core.Bool.{Bool, true, false, not, _&&_, and-eq-true-iff, true≢false}
 use mathlib.Core.List.{List, List·Memᴰ}
 use borrow.Author.Tests.{eq-eqb, ne-eqb, eqb-true, eqb-false, not-true}
 use lib.Bits.{bitAnd, and-le-r}
 use lib.Dec.{eqb, ltb}
-use lib.ListN.{length}
 use Rattle.bitmap.specs.Mask.{bit}
 use Rattle.bitmap.specs.MaskLaws.{Within, bit-and, same-bits}
 use Rattle.lists.specs.Below.{thoseBelow}

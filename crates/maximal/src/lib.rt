@@ -1,5 +1,5 @@
-// The maximal members of a family of sets of n replicas, which a table of 2^n bits holds, a bit a mask. It is worked on in place and by words, in one
-// pass for each replica and one more.
+// The maximal members of a family of sets of n replicas, which a table of 2^n bits holds, a bit a mask. It is worked on in place and by words,
+// in one pass for each replica and one more.
 ghost use mathlib.Core.Path.{_≡_};
 ghost use Prim.Native.Nat.{_/_, _^_, _<_, _≤_};
 ghost use lib.Bits.{bitAnd};
@@ -30,7 +30,8 @@ fn close(table: &mut [u64], n: usize)
     }
 }
 
-// Flags each set too that lacks the replica b, and with it is flagged. It goes upward, so that a word further up is read before it is written.
+// Flags each set too that lacks the replica b, and with it is flagged. It goes upward, so that a word further up is read before it is
+// written.
 fn spread(table: &mut [u64], b: usize)
     requires { ⌜ b < 16 ⌝ }
     ensures { λ _. ⌜ Spread b (now (table .entry)) (now (table .exit)) ⌝ }
@@ -71,8 +72,8 @@ fn tops(table: &[u64], n: usize, k: usize) -> u64
     table[k] ^ (table[k] & c)
 }
 
-// Those of the 64 sets of the word k that lack the replica b, and with it are flagged. The set with a replica below 6 is in the same word; that with
-// another is at the same place in a word further up.
+// Those of the 64 sets of the word k that lack the replica b, and with it are flagged. The set with a replica below 6 is in the same word;
+// that with another is at the same place in a word further up.
 fn shown(table: &[u64], b: usize, k: usize) -> u64
     requires { ⌜ b < 16 ⌝ }
     requires { ⌜ k < length (now table) ⌝ }

@@ -1,8 +1,7 @@
 -- `faults::list_of` meets its contract. Assumes nothing.
 use mathlib.Core.Path.{_≡_, ap, subst, _∙_}
-use mathlib.Core.Bool.{Bool}
 use mathlib.Core.List.{List}
-use Prim.Native.Nat.{ℕ, _^_, _≤_}
+use Prim.Native.Nat.{ℕ, _≤_}
 use native.Mathlib.Omega.{arith}
 use borrow.Author.Needs.{needs}
 use lib.ListN.{length}

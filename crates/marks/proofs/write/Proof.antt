@@ -21,7 +21,8 @@ abbrev μ-loop : tie.MeasureT-loop
 μ-loop table n list₀ size i₀ m₀ list i m = size - m
 
 -- where a set is written there is room for it
-room-at : (c : tie.Then1 Inv-loop μ-loop) → c .before .before .before .loop .i < length (c .before .before .before .before .before .before .args .list .now)
+room-at : (c : tie.Then1 Inv-loop μ-loop)
+    → c .before .before .before .loop .i < length (c .before .before .before .before .before .before .args .list .now)
 room-at c = search room
 
 pub write-spec : {M : Type 1} → statement M

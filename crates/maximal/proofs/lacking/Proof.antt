@@ -1,6 +1,6 @@
 -- `maximal::lacking` meets its contract, by computing. Assumes nothing.
 use Prim.Native.Nat.{ℕ}
-use mathlib.Core.Path.{_≡_, refl, sym, ap}
+use mathlib.Core.Path.{_≡_, sym, ap}
 use native.Mathlib.Omega.{arith}
 use Rattle.bitmap.specs.Mask.{maskBelow}
 use Rattle.maximal.specs.Tables.{isLacking}
