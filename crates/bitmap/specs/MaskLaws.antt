@@ -1,17 +1,18 @@
 -- The laws of masks, at any width: bits of a union and of a meet, and when two masks are equal. Assumes nothing.
 use mathlib.Core.Logic.{_↔_, _⊎_, inl, inr, ⊎-elim}
-use mathlib.Core.Bool.{true}
-use borrow.Author.Tests.{ltb-true, lt-ltb}
+use mathlib.Core.Bool.{true, not, _&&_, _||_}
+use borrow.Author.Tests.{ltb-true, lt-ltb, eq-eqb, ne-eqb}
 use mathlib.Core.Path.{_≡_, refl, sym, ap, _∙_, subst}
-use Prim.Native.Nat.{ℕ, zero, suc, _+_, _-_, _/_, _%_, _^_, _≤_, _<_, min, max}
-use native.Mathlib.Nat.{div-self, mul-mod-left, mul-div-cancel, div-one, zero-lt-suc, not-suc-le-zero, le-of-suc-le-suc, zero-div, div-lt-iff-lt-mul, div-eq-of-lt, one-mul, pow-suc, lt-of-lt-of-le}
+use Prim.Native.Nat.{ℕ, zero, suc, _+_, _-_, _/_, _*_, _%_, _^_, _≤_, _<_, min, max}
+use native.Mathlib.Nat.{mod-lt, div-self, mul-mod-left, mul-div-cancel, div-one, zero-lt-suc, not-suc-le-zero, le-of-suc-le-suc, zero-div, div-lt-iff-lt-mul, div-eq-of-lt, one-mul, pow-suc, lt-of-lt-of-le}
 use native.Mathlib.Numerals.{one-add}
 use native.Mathlib.Omega.{arith}
 use native.Mathlib.Decide.{decLt, ℕ-discrete}
 use lib.Arith.{bin-ind}
 use lib.Pow.{ones-lt, shr-shr, pow-mono, pow-pos}
-use lib.Bits.{bitOr, bitAnd, or-step, and-step, or-shr, and-shr, or-zero-r}
-use Rattle.bitmap.specs.Mask.{allBelow, isBelow, bit, withBit}
+use lib.Bits.{bitOr, bitAnd, bitXor, differ, or-step, and-step, xor-step, or-shr, and-shr, xor-shr, or-zero-r}
+use lib.Dec.{eqb}
+use Rattle.bitmap.specs.Mask.{allBelow, isBelow, bit, hasBit, withBit}
 
 -- ---- single bits
 
@@ -53,6 +54,43 @@ or-means a b s = (go (bit a s) refl, ⊎-elim (λ p. omega (arith, bit-or a b s)
     go : (x : ℕ) → bit a s ≡ x → bit (bitOr a b) s ≡ 1 → (bit a s ≡ 1) ⊎ (bit b s ≡ 1)
     go zero q e = inr (omega (arith, bit-or a b s))
     go (suc x) q e = inl (omega arith)
+
+-- and so for the tests
+pub has-or : (a b s : ℕ) → hasBit (bitOr a b) s ≡ (hasBit a s || hasBit b s)
+has-or a b s = go (ℕ-discrete (bit a s) 1)
+  where
+    go : Dec (bit a s ≡ 1) → hasBit (bitOr a b) s ≡ (hasBit a s || hasBit b s)
+    go (yes p) = rw (eq-eqb (bit (bitOr a b) s) 1 (omega (arith, bit-or a b s)), eq-eqb (bit a s) 1 p)
+    go (no p) = let e : bit (bitOr a b) s ≡ bit b s = omega (arith, bit-or a b s) in rw (e, ne-eqb (bit a s) 1 p)
+
+-- where two masks differ
+xor-low : (a b : ℕ) → bitXor a b % 2 ≡ differ (a % 2) (b % 2)
+xor-low a b = go (a % 2) (b % 2) (mod-lt a (zero-lt-suc 1)) (mod-lt b (zero-lt-suc 1)) (xor-step a b)
+  where
+    go : (x y : ℕ) → x < 2 → y < 2 → bitXor a b ≡ bitXor (a / 2) (b / 2) * 2 + differ x y → bitXor a b % 2 ≡ differ x y
+    go zero zero h g e = omega arith
+    go zero (suc zero) h g e = omega arith
+    go (suc zero) zero h g e = omega arith
+    go (suc zero) (suc zero) h g e = omega arith
+    go zero (suc (suc y)) h g e = absurd (omega arith)
+    go (suc zero) (suc (suc y)) h g e = absurd (omega arith)
+    go (suc (suc x)) y h g e = absurd (omega arith)
+
+pub bit-xor : (a b s : ℕ) → bit (bitXor a b) s ≡ differ (bit a s) (bit b s)
+bit-xor a b s = ap (λ (x : ℕ). x % 2) (xor-shr a b s) ∙ xor-low (a / 2 ^ s) (b / 2 ^ s)
+
+-- the members of a that are none of b: a differs there from what the two share
+pub has-except : (a b s : ℕ) → hasBit (bitXor a (bitAnd a b)) s ≡ (hasBit a s && not (hasBit b s))
+has-except a b s = rw (bit-xor a (bitAnd a b) s, bit-and a b s) (go (bit a s) (bit b s) (bit-lt a s) (bit-lt b s))
+  where
+    go : (x y : ℕ) → x < 2 → y < 2 → eqb (differ x (min x y)) 1 ≡ (eqb x 1 && not (eqb y 1))
+    go zero zero h g = refl
+    go zero (suc zero) h g = refl
+    go (suc zero) zero h g = refl
+    go (suc zero) (suc zero) h g = refl
+    go zero (suc (suc y)) h g = absurd (omega arith)
+    go (suc zero) (suc (suc y)) h g = absurd (omega arith)
+    go (suc (suc x)) y h g = absurd (omega arith)
 
 -- ---- extensionality
 

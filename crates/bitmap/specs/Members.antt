@@ -2,18 +2,19 @@
 use mathlib.Core.Path.{_≡_, refl, sym, ap, _∙_}
 use mathlib.Core.Logic.{⊎-elim, _⊎_, inl, inr, _↔_}
 use mathlib.Core.List.{List, [], _∷_, map}
-use Prim.Native.Nat.{ℕ, zero, suc, _+_, _/_, _%_, _^_, _≤_}
-use native.Mathlib.Nat.{suc-inj, suc-ne-zero, pow-suc, mul-mod-left, mul-div-cancel, zero-lt-suc}
+use Prim.Native.Nat.{ℕ, zero, suc, _+_, _-_, _/_, _%_, _^_, _≤_, _<_}
+use native.Mathlib.Nat.{le-trans, suc-inj, suc-ne-zero, pow-suc, mul-mod-left, mul-div-cancel, zero-lt-suc}
 use native.Mathlib.Omega.{arith}
 use native.Mathlib.Decide.{ℕ-discrete}
 use lib.Arith.{bin-ind}
-use lib.Bits.{bitAnd}
+use lib.Bits.{bitAnd, or-lt}
+use lib.Pow.{pow-lt}
 use lib.ListN.{length, take, length-map}
 use lib.Seq.{length-take-le}
 use Rattle.lists.specs.All.{AllOf, Distinct}
 use Rattle.lists.specs.AllLaws.{all-of-map}
 use Rattle.bitmap.specs.Mask.{bit, withBit, count}
-use Rattle.bitmap.specs.MaskLaws.{bit-zero, bit-half, bit-and, bit-none, bit-same, bit-other, bit-with, same-bits, Within}
+use Rattle.bitmap.specs.MaskLaws.{bit-zero, bit-half, bit-and, bit-none, bit-same, bit-other, bit-with, same-bits, Within, within-or-left}
 use Rattle.bitmap.specs.CountLaws.{count-step, count-none, count-within, count-or}
 
 -- d pairwise different numbers of which Q holds
@@ -135,3 +136,34 @@ count-means d m = (listed d m, gathered d m)
 -- the same numbers, seen otherwise
 pub many-map : {P Q : ℕ → Type 0} {d : ℕ} → ((k : ℕ) → P k → Q k) → Many d P → Many d Q
 many-map f h = record { list = h .list; long = h .long; distinct = h .distinct; each = all-of-map f (h .list) (h .each) }
+
+-- ---- a set with more members
+
+-- a set of numbers below n with exactly f members, those of m among them
+pub record Grown (n f m : ℕ) : Type 0 where
+  pub set : ℕ
+  pub small : set < 2 ^ n
+  pub many : count set ≡ f
+  pub holds : Within m set
+
+-- a mask of fewer than n members lacks a number below n
+gap : (n m : ℕ) → suc (count m) ≤ n → (b : ℕ) × (suc b ≤ n) × (bit m b ≡ 0)
+gap zero m h = absurd (omega arith)
+gap (suc n) m h = go (m % 2) refl (gap n (m / 2))
+  where
+    go : (r : ℕ) → m % 2 ≡ r → (suc (count (m / 2)) ≤ n → (b : ℕ) × (suc b ≤ n) × (bit (m / 2) b ≡ 0)) → (b : ℕ) × (suc b ≤ suc n) × (bit m b ≡ 0)
+    go zero e ih = (0, omega arith, bit-zero m ∙ e)
+    go (suc r) e ih =
+        let i = ih (omega (arith, count-step m)) in
+        (suc (i .0), omega (arith, i .1), sym (bit-half m (i .0)) ∙ i .2)
+
+grow : (n f k m : ℕ) → count m + k ≡ f → f ≤ n → m < 2 ^ n → Grown n f m
+grow n f zero m e h l = record { set = m; small = l; many = omega arith; holds = λ s. omega arith }
+grow n f (suc k) m e h l =
+    let b = gap n m (omega arith) in
+    let r = grow n f k (withBit m (b .0)) (omega (arith, count-with m (b .0) (b .2))) h (or-lt n m (2 ^ b .0) l (pow-lt (b .1))) in
+    record { set = r .set; small = r .small; many = r .many; holds = λ s. le-trans (within-or-left m (2 ^ b .0) s) (r .holds s) }
+
+-- a set of at most f of n numbers is within one of exactly f
+pub grown : (n f m : ℕ) → m < 2 ^ n → count m ≤ f → f ≤ n → Grown n f m
+grown n f m l h b = grow n f (f - count m) m (omega arith) b l

@@ -1,22 +1,21 @@
--- The three ways to list the maximal sets of a family, and what the two tables that are lent for it are. Assumes nothing.
-use Prim.Native.Nat.{ℕ, _*_, _-_, _%_, _^_, _<_, _≤_}
+-- The three ways to list the maximal sets of a family, and what the table that is lent for it is. Assumes nothing.
+use Prim.Native.Nat.{ℕ, _+_, _*_, _-_, _/_, _%_, _^_, _<_, _≤_}
 use native.Mathlib.Omega.{arith}
-use mathlib.Core.Path.{_≡_, sym, _∙_}
+use mathlib.Core.Path.{_≡_, sym, ap, _∙_}
 use mathlib.Core.Bool.{Bool, true, false}
 use mathlib.Core.List.{List}
 use borrow.Author.Tests.{le-leb, lt-leb}
-use lib.ListN.{length, getD, take}
-use lib.Pow.{ones-lt, pow-mono}
+use lib.ListN.{length, take}
+use lib.Pow.{ones-lt, pow-mono, pow-pos}
 use lib.Seq.{length-take-le}
 use Rattle.lists.specs.Below.{front}
 use Rattle.bitmap.specs.Mask.{allBelow}
-use Rattle.bitmap.proofs.Words.{one-shl}
+use Rattle.marks.proofs.Sizes.{size-is}
+use Rattle.marks.specs.Marks.{flagged}
 use Rattle.refusals.specs.Numbers.{EVERY_REPLICA, ROOM}
 use Rattle.refusals.specs.Outcome.{refused, accepted}
 use Rattle.maximal.specs.Maximal.{maximals}
 use Rattle.maximal.specs.MaximalLaws.{maximals-same}
-use Rattle.maximal.specs.Tables.{flagged}
-use Rattle.maximal.proofs.Flags.{flagged-on, flagged-off}
 use Rattle.faults.specs.FaultList.{listAnswer, listWords}
 
 -- ---- the three answers
@@ -45,30 +44,28 @@ module _ (f g : ℕ → Bool) (n : ℕ) (h : (k : ℕ) → k < 2 ^ n → f k ≡
   unfolding listWords
   words-same l = rw (maximals-same f g n h, h (allBelow n) (ones-lt n))
 
--- ---- the last flag, that of all replicas
-pub top-on : (t : List ℕ) (n : ℕ) → length t ≡ 2 ^ n → (getD t (length t - 1) 0 ≡ 0 → ⊥) → flagged t (allBelow n) ≡ true
-top-on t n e h = rw (← e) (flagged-on t (length t - 1) h)
+-- ---- `1 << n`, and the words that hold as many bits
+module _ (n : ℕ) (h : n ≤ 16) where
+  pub last-set : (t : List ℕ) → 2 ^ n ≤ 64 * length t → 1 * 2 ^ n % 2 ^ 64 - 1 < 64 * length t
+  last-set t e = omega (arith, size-is n h, pow-pos n)
 
-pub top-off : (t : List ℕ) (n : ℕ) → length t ≡ 2 ^ n → getD t (length t - 1) 0 ≡ 0 → flagged t (allBelow n) ≡ false
-top-off t n e h = rw (← e) (flagged-off t (length t - 1) h)
+  -- its flag is that of the set of all replicas
+  pub whole-set : (t : List ℕ) (r : Bool) → r ≡ flagged t (1 * 2 ^ n % 2 ^ 64 - 1) → (b : Bool) → r ≡ b → flagged t (allBelow n) ≡ b
+  whole-set t r e b q = ap (λ (x : ℕ). flagged t (x - 1)) (sym (size-is n h)) ∙ sym e ∙ q
 
--- ---- the first 2 ^ n flags of a table that has as many
-module _ (n : ℕ) (l : List ℕ) (h : n ≤ 16) (e : 2 ^ n ≤ length l) where
-  exact : 1 * 2 ^ n % 2 ^ 64 ≡ 2 ^ n
-  exact = one-shl 64 n (omega arith)
+  module _ (l : List ℕ) (e : 2 ^ n ≤ 64 * length l) where
+    pub inside : (1 * 2 ^ n % 2 ^ 64 + 63) / 64 ≤ length l
+    inside = omega (arith, size-is n h)
 
-  pub inside : 1 * 2 ^ n % 2 ^ 64 ≤ length l
-  inside = rw exact e
+    pub counted : (1 * 2 ^ n % 2 ^ 64 + 63) / 64 ≡ length (take ((1 * 2 ^ n % 2 ^ 64 + 63) / 64) l)
+    counted = sym (length-take-le ((1 * 2 ^ n % 2 ^ 64 + 63) / 64) l inside)
 
-  pub sized : length (take (1 * 2 ^ n % 2 ^ 64) l) ≡ 2 ^ n
-  sized = rw exact (length-take-le (2 ^ n) l e)
+    pub enough : 2 ^ n ≤ 64 * length (take ((1 * 2 ^ n % 2 ^ 64 + 63) / 64) l)
+    enough = omega (arith, size-is n h, counted)
 
-  pub counted : 1 * 2 ^ n % 2 ^ 64 ≡ length (take (1 * 2 ^ n % 2 ^ 64) l)
-  counted = exact ∙ sym sized
-
--- tables of 2 ^ 8 and of 2 ^ 16 flags have as many
-pub small-holds : (n : ℕ) (l : List ℕ) → n ≤ 8 → length l ≡ 256 → 2 ^ n ≤ length l
+-- tables of 4 and of 1,024 words have as many
+pub small-holds : (n : ℕ) (l : List ℕ) → n ≤ 8 → length l ≡ 4 → 2 ^ n ≤ 64 * length l
 small-holds n l h e = omega (arith, pow-mono h)
 
-pub large-holds : (n : ℕ) (l : List ℕ) → n ≤ 16 → length l ≡ 65536 → 2 ^ n ≤ length l
+pub large-holds : (n : ℕ) (l : List ℕ) → n ≤ 16 → length l ≡ 1024 → 2 ^ n ≤ 64 * length l
 large-holds n l h e = omega (arith, pow-mono h)

@@ -78,7 +78,8 @@ sheet =
     ∷ line 3 1 (profile [] (half ∷ nan ∷ half ∷ []) quarter) (refused 11) before
     ∷ line 3 1 (profile [] (half ∷ half ∷ half ∷ []) plusZero) (refused 11) before
     ∷ line 3 1 (profile (replicate 65 1) [] plusZero) (refused 12) before
-    -- five sets and four words
+    -- four sets and four words; five sets
+    ∷ line 4 1 none (accepted 4) (1 ∷ 2 ∷ 4 ∷ 8 ∷ [])
     ∷ line 5 1 none (refused 22) before
     -- two cases hold: the first refuses
     ∷ line 17 17 none (refused 1) before
@@ -87,6 +88,14 @@ sheet =
     ∷ line 3 1 (profile (replicate 65 1) (half ∷ []) quarter) (refused 11) before
     ∷ line 5 1 (profile (31 ∷ []) [] plusZero) (refused 21) before
     ∷ []
+
+-- no word is lent: the one set of f 0 has no room; neither has that of every replica, and 21 refuses it
+unlent :
+    faultListOf 3 0 none 0 ∷ faultListOf 3 1 (profile (7 ∷ []) [] plusZero) 0 ∷ []
+    ≡ refused 22 ∷ refused 21 ∷ []
+unfolding half quarter profile none faultListOf faultRefusal isPopulation domainsFit probsFit domainsCounted
+    maximals thoseBelow isMaximal isCoveredBy someBelow isBeyond isPart familyOf isSized isAmong isProbable timesOf count
+unlent = refl
 
 answers : map (λ (l : Line). faultListOf (l .n) (l .f) (l .p) 4) sheet ≡ map (λ (l : Line). l .says) sheet
 unfolding before half quarter profile none line sheet faultListOf faultRefusal isPopulation domainsFit probsFit domainsCounted isThreshold isProbability le lt

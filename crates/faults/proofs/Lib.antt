@@ -1,4 +1,4 @@
--- Marks in a table of flags, the cut-off of the search for probable sets, the finished table, the answers, and worked values.
+-- Marks in a table of bits, the cut-off of the search for probable sets, the finished table, the answers, and worked values.
 pub mod Marks
 pub mod Prune
 pub mod Tables

@@ -1,22 +1,25 @@
 -- The step of `mark_probable`: what a set's test at `next` is by the tests at next + 1. Assumes nothing.
 use Prim.Native.Nat.{ℕ, suc, _+_, _*_, _/_, _%_, _^_, _<_, _≤_}
-use native.Mathlib.Nat.{mod-lt, add-comm, one-mul, div-eq-of-lt, pow-suc, lt-of-not-le, mod-eq-of-lt}
+use native.Mathlib.Nat.{mod-lt, add-comm, one-mul, div-eq-of-lt, pow-suc}
 use native.Mathlib.Numerals.{add-one, add-one-le}
 use native.Mathlib.Omega.{arith}
-use mathlib.Core.Path.{_≡_, refl, sym, ap, subst, _∙_}
-use mathlib.Core.Bool.{Bool, true, false, not, _&&_, _||_, cond, and-false}
+use mathlib.Core.Path.{_≡_, refl, sym, ap, _∙_}
+use mathlib.Core.Bool.{Bool, true, false, not, _&&_, _||_, and-false}
 use mathlib.Core.Logic.{⊎-elim, _⊎_, inl, inr}
 use mathlib.Core.List.{List, [], _∷_, _++_}
 use borrow.Author.Tests.{eq-eqb, ne-eqb, eqb-true, eqb-false}
 use lib.Dec.{eqb}
 use lib.Pow.{pow-pos, pow-mono, shr-shr, mod-pow-add, high, low, split}
 use lib.Ieee.{Float, binary64, mul, le}
-use lib.ListN.{length, getD, take, drop, set}
-use lib.Seq.{drop-cons, take-suc, getD-set-same, getD-set-other}
+use lib.ListN.{length, getD, take, drop, replicate}
+use lib.Seq.{drop-cons, take-suc}
 use borrow.Author.Count.{below-more}
 use Rattle.lists.specs.All.{any}
-use Rattle.faults.specs.Family.{isAmong}
-use Rattle.faults.specs.Family.{timesOf}
+use Rattle.bitmap.specs.Mask.{count}
+use Rattle.bitmap.proofs.Words.{one-shl}
+use Rattle.marks.specs.Marks.{flagged, withFlag}
+use Rattle.marks.specs.MarkLaws.{flagged-with, none-flagged}
+use Rattle.faults.specs.Family.{timesOf, isSized, isAmong}
 use Rattle.faults.specs.Marks.{isHit, Marked}
 
 -- no member: the product is what it was
@@ -149,24 +152,25 @@ hit-none ps next mask p eps j h =
 
 -- marks after marks
 pub marked-then :
-    (f g h : ℕ → Bool) (a b c : List ℕ) → length b ≡ length a → Marked f a b → Marked g b c → ((j : ℕ) → h j ≡ (g j || f j)) → Marked h a c
+    (size : ℕ) (f g h : ℕ → Bool) (a b c : List ℕ) → Marked size f a b → Marked size g b c → ((j : ℕ) → h j ≡ (g j || f j)) → Marked size h a c
 unfolding Marked
-marked-then f g h a b c e m n s j l = rw (n j (omega arith), m j l, s j) (go (g j) (f j))
+marked-then size f g h a b c m n s j l = rw (n j l, m j l, s j) (go (g j) (f j))
   where
-    go : (x y : Bool) → cond x 1 (cond y 1 (getD a j 0)) ≡ cond (x || y) 1 (getD a j 0)
+    go : (x y : Bool) → (x || (y || flagged a j)) ≡ ((x || y) || flagged a j)
     go true y = refl
     go false y = refl
 
 -- one store
-pub marked-one : (m : ℕ) (t : Bool) (a : List ℕ) → t ≡ true → Marked (λ j. eqb j m && t) a (set a m 1)
+pub marked-one : (size m : ℕ) (t : Bool) (a b : List ℕ)
+    → m < 64 * length a → b ≡ withFlag a m → t ≡ true → Marked size (λ j. eqb j m && t) a b
 unfolding Marked
-marked-one m t a e j l =
-    ⊎-elim
-    (λ o. let u : j ≡ m = eqb-true j m o in simp (o, e) (rw u (getD-set-same a m 1 0 (subst (λ (x : ℕ). x < length a) u l))))
-    (λ (o : eqb j m ≡ false). simp o (getD-set-other a m j 1 0 (eqb-false j m o)))
-    (either (eqb j m))
+marked-one size m t a b i q e j l = ap (λ (x : List ℕ). flagged x j) q ∙ flagged-with a m j i ∙ rw e (go (eqb j m))
+  where
+    go : (x : Bool) → (x || flagged a j) ≡ ((x && true) || flagged a j)
+    go true = refl
+    go false = refl
 
--- What is known where a set gets the replica `next` of n, and L is 2 ^ n and a slice's length: the shift is exact, and the sets are in range
+-- What is known where a set gets the replica `next` of n, and L is at least 2 ^ n: the shift is exact, and the sets are in range
 pub record Room (L next mask : ℕ) : Type 0 where
   pub shift : next < 64
   pub exact : (1 * 2 ^ next) % 2 ^ 64 ≡ 2 ^ next
@@ -174,35 +178,65 @@ pub record Room (L next mask : ℕ) : Type 0 where
   pub low : mask < 2 ^ (next + 1)
   pub more : mask + 2 ^ next < 2 ^ (next + 1)
 
-pub room : (L n next mask : ℕ) → L ≡ 2 ^ n → L < 2 ^ 64 → next < n → mask < 2 ^ next → Room L next mask
-room L n next mask e f h l =
+pub room : (L n next mask : ℕ) → n ≤ 16 → 2 ^ n ≤ L → next < n → mask < 2 ^ next → Room L next mask
+room L n next mask b e h l =
     let twice : 2 ^ (next + 1) ≡ 2 ^ next * 2 = ap (λ (x : ℕ). 2 ^ x) (add-one next) ∙ pow-suc 2 next in
     let up : 2 ^ (next + 1) ≤ 2 ^ n = pow-mono (add-one-le h) in
     record {
-      shift = lt-of-not-le (λ (g : 64 ≤ next). let w : 2 ^ 64 ≤ 2 ^ next = pow-mono g in omega arith);
-      exact = let x : 2 ^ next < 2 ^ 64 = omega arith in rw one-mul (mod-eq-of-lt x);
+      shift = omega arith;
+      exact = one-shl 64 next (omega arith);
       inside = omega arith;
       low = omega arith;
       more = omega arith;
     }
 
 -- nothing to mark
-pub marked-none : (f : ℕ → Bool) (a : List ℕ) → ((j : ℕ) → j < length a → f j ≡ false) → Marked f a a
+pub marked-none : (size : ℕ) (f : ℕ → Bool) (a : List ℕ) → ((j : ℕ) → j < size → f j ≡ false) → Marked size f a a
 unfolding Marked
-marked-none f a h j l = rw (h j l)
+marked-none size f a h j l = rw (h j l)
 
 -- the same marks by another name
-pub marked-same : (f g : ℕ → Bool) (a b : List ℕ) → Marked f a b → ((j : ℕ) → g j ≡ f j) → Marked g a b
+pub marked-same : (size : ℕ) (f g : ℕ → Bool) (a b : List ℕ) → Marked size f a b → ((j : ℕ) → g j ≡ f j) → Marked size g a b
 unfolding Marked
-marked-same f g a b m s j l = m j l ∙ rw (s j)
+marked-same size f g a b m s j l = m j l ∙ rw (s j)
 
--- ---- a table of flags, filled from the front
-pub flags-more :
-    (f : ℕ → Bool) (t : List ℕ) (m v : ℕ) → m < length t → v ≡ cond (f m) 1 0
-    → ((j : ℕ) → j < m → getD t j 0 ≡ cond (f j) 1 0) → (j : ℕ) → j < m + 1 → getD (set t m v) j 0 ≡ cond (f j) 1 0
-flags-more f t m v h e all =
-    below-more (λ (j : ℕ). getD (set t m v) j 0 ≡ cond (f j) 1 0) m
-    (λ j l. getD-set-other t m j v 0 (λ q. omega arith) ∙ all j l) (getD-set-same t m v 0 h ∙ e)
+-- ---- the sets of exactly f replicas: those below m are flagged, and nothing else
+module _ (f : ℕ) where
+  abbrev pub Done : ℕ → List ℕ → Type 0
+  Done m t = (j : ℕ) → j < m → flagged t j ≡ isSized f j
+
+  abbrev pub Blank : ℕ → List ℕ → Type 0
+  Blank m t = (j : ℕ) → m ≤ j → flagged t j ≡ false
+
+  pub blank-first : (k : ℕ) (t : List ℕ) → t ≡ replicate k 0 → Blank 0 t
+  blank-first k t e j h = ap (λ (x : List ℕ). flagged x j) e ∙ none-flagged k j
+
+  module _ (m : ℕ) (t : List ℕ) (blank : Blank m t) where
+    pub blank-leave : (after : List ℕ) → after ≡ t → Blank (m + 1) after
+    blank-leave after e j h = ap (λ (x : List ℕ). flagged x j) e ∙ blank j (omega arith)
+
+    module _ (done : Done m t) (c : ℕ) (told : c ≡ count m) where
+      pub done-leave : (after : List ℕ) → after ≡ t → (c ≡ f → ⊥) → Done (m + 1) after
+      unfolding isSized
+      done-leave after e d =
+          let here = blank m (omega arith) ∙ sym (ne-eqb (count m) f (λ (q : count m ≡ f). d (told ∙ q))) in
+          rw e (below-more (λ (j : ℕ). flagged t j ≡ eqb (count j) f) m done here)
+
+      module _ (inside : m < 64 * length t) (after : List ℕ) (put : after ≡ withFlag t m) where
+        at : (j : ℕ) → flagged after j ≡ (eqb j m || flagged t j)
+        at j = ap (λ (x : List ℕ). flagged x j) put ∙ flagged-with t m j inside
+
+        elsewhere : (j : ℕ) → (j ≡ m → ⊥) → flagged after j ≡ flagged t j
+        elsewhere j d = at j ∙ rw (ne-eqb j m d)
+
+        pub done-put : c ≡ f → Done (m + 1) after
+        unfolding isSized
+        done-put e =
+            below-more (λ (j : ℕ). flagged after j ≡ eqb (count j) f) m (λ j h. elsewhere j (λ (q : j ≡ m). omega arith) ∙ done j h)
+            (at m ∙ rw (eq-eqb m m refl, eq-eqb (count m) f (sym told ∙ e)))
+
+        pub blank-put : Blank (m + 1) after
+        blank-put j h = elsewhere j (λ (q : j ≡ m). omega arith) ∙ blank j (omega arith)
 
 -- ---- one more mask of a list
 any-append : (p : ℕ → Bool) (xs ys : List ℕ) → any p (xs ++ ys) ≡ (any p xs || any p ys)

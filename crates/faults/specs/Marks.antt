@@ -1,16 +1,17 @@
--- Sets that are marked in a table of flags, a flag a mask. Assumes nothing.
+-- Sets that are marked in a table of bits. Assumes nothing.
 use Prim.Native.Nat.{ℕ, _/_, _%_, _^_, _<_}
 use mathlib.Core.Path.{_≡_}
-use mathlib.Core.Bool.{Bool, cond, not, _&&_}
+use mathlib.Core.Bool.{Bool, not, _&&_, _||_}
 use mathlib.Core.List.{List}
 use lib.Dec.{eqb}
 use lib.Ieee.{Float, le}
-use lib.ListN.{length, getD, drop}
+use lib.ListN.{drop}
+use Rattle.marks.specs.Marks.{flagged}
 use Rattle.faults.specs.Family.{timesOf}
 
--- each flag is 1 where the test holds, and else what it was
-unfoldable pub Marked : (ℕ → Bool) → List ℕ → List ℕ → Type 0
-Marked g before after = (m : ℕ) → m < length before → getD after m 0 ≡ cond (g m) 1 (getD before m 0)
+-- of the masks below `size` those are flagged for which the test holds, and those that were
+unfoldable pub Marked : ℕ → (ℕ → Bool) → List ℕ → List ℕ → Type 0
+Marked size g before after = (m : ℕ) → m < size → flagged after m ≡ (g m || flagged before m)
 
 -- the mask m has just the members of `mask` below `next`, some member from `next` on, and with those its product, from p, is at least the threshold
 unfoldable pub isHit : List Float → ℕ → ℕ → Float → Float → ℕ → Bool

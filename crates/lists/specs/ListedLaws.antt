@@ -1,11 +1,11 @@
 -- What is in a list: the elements that pass a test, lists put together, and lists in which no element stands twice. Assumes nothing.
 use mathlib.Core.Path.{_≡_, refl, sym, ap, _∙_}
 use mathlib.Core.Logic.{_↔_, _⊎_, inl, inr}
-use mathlib.Core.Bool.{Bool, true, false, cond, true≢false}
+use mathlib.Core.Bool.{Bool, true, false, cond, true≢false, and-eq-true-iff}
 use mathlib.Core.List.{List, [], _∷_, _++_, List·Memᴰ, List·Memᴰ·head, List·Memᴰ·tail, List·Memᴰ·not-nil, List·Memᴰ·cases-cons, Memᴰ·append-right}
 use Prim.Native.Nat.{ℕ, zero, suc, _<_}
 use native.Mathlib.Omega.{arith}
-use Rattle.lists.specs.All.{passing, AllOf, Distinct}
+use Rattle.lists.specs.All.{all, passing, AllOf, Distinct}
 use Rattle.lists.specs.AllLaws.{all-of-listed}
 use Rattle.lists.specs.Below.{eachBelow}
 use Rattle.lists.specs.BelowLaws.{each-below-listed}
@@ -29,6 +29,18 @@ module _ {A : Type 0} where
 pub listed-all-of : {A : Type 0} (F : A → Type 0) (xs : List A) → ((y : A) → List·Memᴰ y xs → F y) → AllOf F xs
 listed-all-of F [] h = tt
 listed-all-of F (x ∷ xs) h = (h x (List·Memᴰ·head refl), listed-all-of F xs (λ y m. h y (List·Memᴰ·tail m)))
+
+-- each passes exactly if whatever is in the list does
+pub all-listed : {A : Type 0} (p : A → Bool) (xs : List A) → all p xs ≡ true → (y : A) → List·Memᴰ y xs → p y ≡ true
+all-listed {A} p xs e = all-of-listed (λ x. p x ≡ true) xs (each xs e)
+  where
+    each : (xs : List A) → all p xs ≡ true → AllOf (λ x. p x ≡ true) xs
+    each [] e = tt
+    each (x ∷ xs) e = let q = and-eq-true-iff (p x) (all p xs) .0 e in (q .0, each xs (q .1))
+
+pub listed-all : {A : Type 0} (p : A → Bool) (xs : List A) → ((y : A) → List·Memᴰ y xs → p y ≡ true) → all p xs ≡ true
+listed-all p [] h = refl
+listed-all p (x ∷ xs) h = and-eq-true-iff (p x) (all p xs) .1 (h x (List·Memᴰ·head refl), listed-all p xs (λ y m. h y (List·Memᴰ·tail m)))
 
 -- ---- those that pass
 module _ {A : Type 0} (p : A → Bool) where

@@ -6,8 +6,8 @@ use Prim.Native.Nat.{ℕ}
 use lib.Dec.{eqb}
 use Rattle.bitmap.specs.Mask.{count}
 use Rattle.lists.specs.Below.{someBelow, thoseBelow, front}
+use Rattle.marks.specs.Marks.{flagged}
 use Rattle.maximal.specs.Maximal.{isPart, isBeyond, isCoveredBy, isMaximal, maximals}
-use Rattle.maximal.specs.Tables.{flagged}
 
 -- exactly one of three replicas
 single : ℕ → Bool
@@ -21,7 +21,7 @@ families :
 unfolding single maximals isMaximal isCoveredBy isBeyond isPart thoseBelow someBelow count
 families = refl
 
--- the same from a table of flags, where any number but 0 is a flag, written to a list of five words: the last three are as they were
-table : front (maximals (flagged (0 ∷ 1 ∷ 1 ∷ 9 ∷ 1 ∷ 0 ∷ 0 ∷ 0 ∷ [])) 3) (60 ∷ 61 ∷ 62 ∷ 63 ∷ 64 ∷ []) ≡ 0b011 ∷ 0b100 ∷ 62 ∷ 63 ∷ 64 ∷ []
+-- the same from a table of bits, the sets 1 to 4, written to a list of five words: the last three are as they were
+table : front (maximals (flagged (0b11110 ∷ [])) 3) (60 ∷ 61 ∷ 62 ∷ 63 ∷ 64 ∷ []) ≡ 0b011 ∷ 0b100 ∷ 62 ∷ 63 ∷ 64 ∷ []
 unfolding front flagged maximals isMaximal isCoveredBy isBeyond isPart thoseBelow someBelow
 table = refl

@@ -1,5 +1,4 @@
--- The laws of the pass over the masks, and worked values.
+-- The laws of the passes, and worked values.
 pub mod Supersets
-pub mod Flags
-pub mod Turns
+pub mod Passes
 pub mod Examples

@@ -4,18 +4,19 @@ use native.Mathlib.Omega.{arith}
 use native.Mathlib.Nat.{le-trans}
 use mathlib.Core.Path.{_≡_, refl, sym, ap, subst, _∙_}
 use mathlib.Core.Logic.{_↔_}
-use mathlib.Core.Bool.{Bool, true, false, not, _&&_, cond, and-eq-true-iff, true≢false}
+use mathlib.Core.Bool.{Bool, true, false, not, _&&_, and-eq-true-iff, true≢false}
 use mathlib.Core.List.{List, List·Memᴰ}
 use borrow.Author.Tests.{eq-eqb, ne-eqb, eqb-true, eqb-false, not-true}
 use lib.Bits.{bitAnd, and-le-r}
 use lib.Dec.{eqb, ltb}
-use lib.ListN.{length}
 use Rattle.bitmap.specs.Mask.{bit}
 use Rattle.bitmap.specs.MaskLaws.{Within, bit-and, same-bits}
+use Rattle.lists.specs.Below.{thoseBelow}
 use Rattle.lists.specs.BelowLaws.{some-below-means, some-below-same, those-below-means, those-below-rising, those-below-same}
 use Rattle.lists.specs.SortLaws.{Ordered}
+use Rattle.marks.specs.Marks.{flagged}
 use Rattle.maximal.specs.Maximal.{isPart, isBeyond, isCoveredBy, isMaximal, maximals}
-use Rattle.maximal.specs.Tables.{flagged, Flags}
+use Rattle.maximal.specs.Tables.{Flags}
 
 -- ---- parts
 
@@ -132,11 +133,8 @@ maximals-same f g n h =
     those-below-same (isMaximal f n) (isMaximal g n) (2 ^ n)
     (λ m l. rw (h m l, some-below-same (λ (s : ℕ). f s && isBeyond m s) (λ (s : ℕ). g s && isBeyond m s) (2 ^ n) (λ s i. rw (h s i))))
 
--- the family of a table of flags
-pub flagged-is : (g : ℕ → Bool) (t : List ℕ) → Flags g t → (m : ℕ) → m < length t → flagged t m ≡ g m
-unfolding flagged Flags
-flagged-is g t h m l = rw (h m l) (go (g m))
-  where
-    go : (b : Bool) → not (eqb (cond b 1 0) 0) ≡ b
-    go true = refl
-    go false = refl
+-- ---- a table that flags the maximal members alone lists them
+
+pub kept-list : (g : ℕ → Bool) (n : ℕ) (t : List ℕ) → Flags n (isMaximal g n) t → thoseBelow (flagged t) (2 ^ n) ≡ maximals g n
+unfolding Flags maximals
+kept-list g n t h = those-below-same (flagged t) (isMaximal g n) (2 ^ n) h

@@ -1,106 +1,124 @@
-// The maximal members of a family of sets of n replicas, which a table of 2^n flags holds: one pass over the masks, with the replicas inside it.
+// The maximal members of a family of sets of n replicas, which a table of 2^n bits holds, a bit a mask. It is worked on in place and by words,
+// in one pass for each replica and one more.
 ghost use mathlib.Core.Path.{_≡_};
-ghost use mathlib.Core.Bool.{cond};
-ghost use Prim.Native.Nat.{_+_, _^_, _<_, _≤_};
+ghost use Prim.Native.Nat.{_/_, _^_, _<_, _≤_};
+ghost use lib.Bits.{bitAnd};
 ghost use lib.ListN.{length};
-ghost use Rattle.lists.specs.Below.{front};
-ghost use Rattle.maximal.specs.Maximal.{isCoveredBy, isMaximal, maximals};
-ghost use Rattle.maximal.specs.Tables.{flagged, Covers, isShown};
+ghost use Rattle.bitmap.specs.Mask.{maskBelow};
+ghost use Rattle.marks.specs.Marks.{flagged};
+ghost use Rattle.maximal.specs.Maximal.{isMaximal};
+ghost use Rattle.maximal.specs.Tables.{Flags, isWithin, isLacking, Shows, Spread, Tops, Peeled};
 
-// Says of each set, in `over`, whether some proper superset of it is in the family, from the largest mask down. A part: both tables have 2^n flags.
-pub fn cover(table: &[u8], over: &mut [u8], n: usize)
-    requires { ⌜ length (now table) ≡ 2 ^ n ⌝ }
-    requires { ⌜ length (now over) ≡ 2 ^ n ⌝ }
-    ensures { λ _. ⌜ Covers n (now (table .entry)) (now (over .exit)) 0 ⌝ }
+// Leaves flagged the maximal members alone of the family that the table flags.
+pub fn keep(table: &mut [u64], n: usize)
+    requires { ⌜ n ≤ 16 ⌝ }
+    ensures { λ _. ⌜ Flags n (isMaximal (flagged (now (table .entry))) n) (now (table .exit)) ⌝ }
 {
-    let mut m = table.len();
-    while 0 < m {
-        m -= 1;
-        let c = above(table, over, n, m);
-        over[m] = c;
-    }
+    close(table, n);
+    peel(table, n);
 }
 
-// How many maximal members there are. A part: both tables have 2^n flags, and `over` is as `cover` leaves it.
-pub fn count(table: &[u8], over: &[u8], n: usize) -> usize
-    requires { ⌜ length (now table) ≡ 2 ^ n ⌝ }
-    requires { ⌜ length (now over) ≡ 2 ^ n ⌝ }
-    requires { ⌜ Covers n (now table) (now over) 0 ⌝ }
-    ensures { λ r. ⌜ r ≡ length (maximals (flagged (now (table .entry))) n) ⌝ }
+// Flags each part of a member too. After the pass over the replica b those parts are flagged that lack replicas up to b alone.
+fn close(table: &mut [u64], n: usize)
+    requires { ⌜ n ≤ 16 ⌝ }
+    ensures { λ _. ⌜ Flags n (isWithin (flagged (now (table .entry))) n) (now (table .exit)) ⌝ }
 {
-    let mut c: usize = 0;
-    let mut m: usize = 0;
-    while m < table.len() {
-        if is_maximal(table, over, n, m) {
-            c += 1;
-        }
-        m += 1;
-    }
-    c
-}
-
-// Writes the maximal members, rising, to the front of `list`, which has room for them. A part, as `count`.
-pub fn write(table: &[u8], over: &[u8], n: usize, list: &mut [u64])
-    requires { ⌜ length (now table) ≡ 2 ^ n ⌝ }
-    requires { ⌜ length (now over) ≡ 2 ^ n ⌝ }
-    requires { ⌜ Covers n (now table) (now over) 0 ⌝ }
-    requires { ⌜ length (maximals (flagged (now table)) n) ≤ length (now list) ⌝ }
-    ensures { λ _. ⌜ now (list .exit) ≡ front (maximals (flagged (now (table .entry))) n) (now (list .entry)) ⌝ }
-{
-    let mut i: usize = 0;
-    let mut m: usize = 0;
-    while m < table.len() {
-        if is_maximal(table, over, n, m) {
-            list[i] = m as u64;
-            i += 1;
-        }
-        m += 1;
-    }
-}
-
-// Whether m is in the family and no proper superset of it is.
-fn is_maximal(table: &[u8], over: &[u8], n: usize, m: usize) -> bool
-    requires { ⌜ length (now table) ≡ 2 ^ n ⌝ }
-    requires { ⌜ length (now over) ≡ 2 ^ n ⌝ }
-    requires { ⌜ m < 2 ^ n ⌝ }
-    requires { ⌜ Covers n (now table) (now over) 0 ⌝ }
-    ensures { λ r. ⌜ r ≡ isMaximal (flagged (now (table .entry))) n m ⌝ }
-{
-    if table[m] == 0 {
-        return false;
-    }
-    over[m] == 0
-}
-
-// Whether some proper superset of m is in the family: each one has a member that m lacks, and is m with that member or covers it.
-fn above(table: &[u8], over: &[u8], n: usize, m: usize) -> u8
-    requires { ⌜ length (now table) ≡ 2 ^ n ⌝ }
-    requires { ⌜ length (now over) ≡ 2 ^ n ⌝ }
-    requires { ⌜ m < 2 ^ n ⌝ }
-    requires { ⌜ Covers n (now table) (now over) (m + 1) ⌝ }
-    ensures { λ r. ⌜ r ≡ cond (isCoveredBy (flagged (now (table .entry))) n m) 1 0 ⌝ }
-{
-    let mut seen = false;
     let mut b: usize = 0;
     while b < n {
-        seen = seen | shows(table, over, n, m, b);
+        spread(table, b);
         b += 1;
     }
-    if seen {
-        return 1;
-    }
-    0
 }
 
-// Whether m lacks the member b, and with it is in the family or covered. No branch: which way one would go can't be foreseen.
-fn shows(table: &[u8], over: &[u8], n: usize, m: usize, b: usize) -> bool
-    requires { ⌜ length (now table) ≡ 2 ^ n ⌝ }
-    requires { ⌜ length (now over) ≡ 2 ^ n ⌝ }
-    requires { ⌜ m < 2 ^ n ⌝ }
-    requires { ⌜ b < n ⌝ }
-    ensures { λ r. ⌜ r ≡ isShown (now (table .entry)) (now (over .entry)) m b ⌝ }
+// Flags each set too that lacks the replica b, and with it is flagged. It goes upward, so that a word further up is read before it is
+// written.
+fn spread(table: &mut [u64], b: usize)
+    requires { ⌜ b < 16 ⌝ }
+    ensures { λ _. ⌜ Spread b (now (table .entry)) (now (table .exit)) ⌝ }
 {
-    let lacks = 1 - (m >> b) % 2;
-    let s = m + lacks * (1usize << b);
-    (lacks == 1) & ((table[s] != 0) | (over[s] != 0))
+    let mut k: usize = 0;
+    while k < table.len() {
+        let w = shown(table, b, k);
+        table[k] = table[k] | w;
+        k += 1;
+    }
+}
+
+// Leaves a set flagged if with no replica that it lacks it is flagged. It goes upward, as spread.
+fn peel(table: &mut [u64], n: usize)
+    requires { ⌜ n ≤ 16 ⌝ }
+    ensures { λ _. ⌜ Peeled n (now (table .entry)) (now (table .exit)) ⌝ }
+{
+    let mut k: usize = 0;
+    while k < table.len() {
+        let w = tops(table, n, k);
+        table[k] = w;
+        k += 1;
+    }
+}
+
+// Those of the 64 sets of the word k that are flagged, and are so with no replica that they lack.
+fn tops(table: &[u64], n: usize, k: usize) -> u64
+    requires { ⌜ n ≤ 16 ⌝ }
+    requires { ⌜ k < length (now table) ⌝ }
+    ensures { λ r. ⌜ Tops n (now (table .entry)) k r ⌝ }
+{
+    let mut c: u64 = 0;
+    let mut b: usize = 0;
+    while b < n {
+        c = shown(table, b, k) | c;
+        b += 1;
+    }
+    table[k] ^ (table[k] & c)
+}
+
+// Those of the 64 sets of the word k that lack the replica b, and with it are flagged. The set with a replica below 6 is in the same word;
+// that with another is at the same place in a word further up.
+fn shown(table: &[u64], b: usize, k: usize) -> u64
+    requires { ⌜ b < 16 ⌝ }
+    requires { ⌜ k < length (now table) ⌝ }
+    ensures { λ r. ⌜ Shows b (now (table .entry)) k r ⌝ }
+{
+    if b < 6 {
+        return near(table[k], b);
+    }
+    let far = 1usize << (b - 6);
+    if (k >> (b - 6)) % 2 == 1 {
+        return 0;
+    }
+    if table.len() - k <= far {
+        return 0;
+    }
+    table[k + far]
+}
+
+// The places below 64 that lack the bit b, and with it are in w.
+fn near(w: u64, b: usize) -> u64
+    requires { ⌜ b < 6 ⌝ }
+    ensures { λ r. ⌜ r ≡ bitAnd (w / 2 ^ (2 ^ b)) (maskBelow (isLacking b) 64) ⌝ }
+{
+    (w >> (1usize << b)) & lacking(b)
+}
+
+// The numbers below 64 that lack the bit b.
+fn lacking(b: usize) -> u64
+    requires { ⌜ b < 6 ⌝ }
+    ensures { λ r. ⌜ r ≡ maskBelow (isLacking b) 64 ⌝ }
+{
+    if b == 0 {
+        return 0x5555_5555_5555_5555;
+    }
+    if b == 1 {
+        return 0x3333_3333_3333_3333;
+    }
+    if b == 2 {
+        return 0x0f0f_0f0f_0f0f_0f0f;
+    }
+    if b == 3 {
+        return 0x00ff_00ff_00ff_00ff;
+    }
+    if b == 4 {
+        return 0x0000_ffff_0000_ffff;
+    }
+    0x0000_0000_ffff_ffff
 }

@@ -10,11 +10,7 @@ large-spec =
     tie.close
     (tie.spec
     (λ c κs. search needs)
-    (λ c κs. search needs)
     (λ c. search needs)
-    (λ c. search needs)
-    (λ c κs.
-    let s = c .before .before .before .before .before .before in
-    (omega arith, (search large-holds, (search large-holds, s .pre .1))))
+    (λ c κs. (omega arith, (search large-holds, c .before .before .before .before .pre .1)))
     (λ c. search needs)
     (λ c. search needs))

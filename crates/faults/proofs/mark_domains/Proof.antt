@@ -1,14 +1,15 @@
--- `faults::mark_domains` meets its contract. Assumes nothing.
-use mathlib.Core.Path.{_≡_, refl, subst}
+-- `faults::mark_domains` meets its contract. The loop's invariant: the domains before the place i are flagged. Assumes nothing.
+use mathlib.Core.Path.{_≡_, refl, subst, _∙_}
 use mathlib.Core.List.{List}
 use mathlib.Core.Bool.{true, _&&_}
-use Prim.Native.Nat.{ℕ, _-_, _≤_}
+use Prim.Native.Nat.{ℕ, _-_, _*_, _<_, _≤_}
 use native.Mathlib.Omega.{arith}
 use borrow.Author.Needs.{needs}
 use borrow.Author.Tests.{ltb-true}
 use lib.Dec.{eqb}
-use lib.ListN.{length, getD, set, take, length-set}
+use lib.ListN.{length, getD, take}
 use lib.Seq.{take-all}
+use Rattle.lists.specs.All.{all}
 use Rattle.lists.specs.AllLaws.{all-means}
 use Rattle.refusals.specs.Limits.{isUnder}
 use Rattle.faults.specs.Family.{isAmong}
@@ -18,39 +19,51 @@ use Rattle.faults.proofs.mark_domains.Statement.{statement}
 use Rattle.faults.proofs.mark_domains.Tie as tie
 
 abbrev Inv-loop : tie.InvT-loop
-Inv-loop table₀ domains i₀ table i = (i ≤ length domains) × (length table ≡ length table₀) × Marked (isAmong (take i domains)) table₀ table
+Inv-loop table₀ domains i₀ table i =
+    (i ≤ length domains) × (length table ≡ length table₀) × Marked (64 * length table₀) (isAmong (take i domains)) table₀ table
 
 abbrev μ-loop : tie.MeasureT-loop
 μ-loop table₀ domains i₀ table i = length domains - i
 
 loop-holds : tie.Need-loop-holds Inv-loop μ-loop
 unfolding isAmong
-loop-holds c = (search needs, refl, marked-none _ (c .args .table .now) (λ j l. refl))
+loop-holds c = (search needs, refl, marked-none _ _ (c .before .before .args .table .now) (λ j l. refl))
 
-slice-write-table : tie.Need-slice-write-table Inv-loop μ-loop
-slice-write-table c =
-    let s = c .before .before .before in
-    let l = c .before .before .loop in
-    let n = length (s .args .table .now) in
-    omega (arith, ltb-true (getD (s .args .domains .now) (l .i) 0) n (all-means (isUnder n) 0 (s .args .domains .now) .0 (s .pre) (l .i) (c .before .loop-test .taken)))
+-- the domain at the place i has a bit in the table
+inside : (size i : ℕ) (ds : List ℕ) → all (isUnder size) ds ≡ true → i < length ds → getD ds i 0 < size
+inside size i ds e h = ltb-true (getD ds i 0) size (all-means (isUnder size) 0 ds .0 e i h)
+
+put-requires : tie.Need-put-requires Inv-loop μ-loop
+put-requires c κs =
+    let l = c .before .before .before in
+    let s = l .before .before .before in
+    let i = inside (64 * length (s .args .table .now)) (l .loop .i) (s .args .domains .now) (s .pre) (c .before .before .loop-test .taken) in
+    omega (arith, i, l .loop .inv .1)
 
 loop-again : tie.Need-loop-again Inv-loop μ-loop
 loop-again c =
-    let a = c .before .before .before .args in
-    let l = c .before .before .loop in
-    let d : ℕ = getD (a .domains .now) (l .i) 0 in (
+    let p = c .before .before in
+    let l = p .before .before .before .before in
+    let s = l .before .before .before in
+    let a = s .args in
+    let ds : List ℕ = a .domains .now in
+    let d : ℕ = getD ds (l .loop .i) 0 in
+    let size : ℕ = 64 * length (a .table .now) in
+    let h = p .before .before .before .loop-test .taken in
+    let i = inside size (l .loop .i) ds (s .pre) h in (
       search needs,
-      simp length-set (l .inv .1),
-      marked-then (isAmong (take (l .i) (a .domains .now))) (λ m. eqb m d && true) _ (a .table .now) (l .table) (set (l .table) d 1) (l .inv .1) (l .inv .2)
-          (marked-one d true (l .table) refl)
-          (λ m. among-more (a .domains .now) (l .i) m (c .before .loop-test .taken)),
+      p .put .kept .0 ∙ l .loop .inv .1,
+      marked-then size (isAmong (take (l .loop .i) ds)) (λ m. eqb m d && true) _ (a .table .now) (l .loop .table) _ (l .loop .inv .2)
+          (marked-one size d true (l .loop .table) _ (omega (arith, i, l .loop .inv .1)) (p .put .ensures) refl)
+          (λ m. among-more ds (l .loop .i) m h),
     )
 
 returns : tie.Need-returns Inv-loop μ-loop
 returns c =
-    let a = c .before .before .args in
+    let a = c .before .before .before .before .args in
     let l = c .before .loop in
-    subst (λ (ds : List ℕ). Marked (isAmong ds) (a .table .now) (l .table)) (take-all (l .i) (a .domains .now) (omega arith)) (l .inv .2)
+    subst (λ (ds : List ℕ). Marked (64 * length (a .table .now)) (isAmong ds) (a .table .now) (l .table))
+    (take-all (l .i) (a .domains .now) (omega arith)) (l .inv .2)
 
 pub mark-domains-spec : {M : Type 1} → statement M
 mark-domains-spec =
@@ -61,7 +74,7 @@ mark-domains-spec =
     loop-holds
     (λ c. search needs)
     (λ c. search needs)
-    slice-write-table
+    put-requires
     (λ c. search needs)
     (λ c. search needs)
     loop-again

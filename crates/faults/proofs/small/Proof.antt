@@ -10,11 +10,7 @@ small-spec =
     tie.close
     (tie.spec
     (λ c κs. search needs)
-    (λ c κs. search needs)
     (λ c. search needs)
-    (λ c. search needs)
-    (λ c κs.
-    let s = c .before .before .before .before .before .before in
-    (omega arith, (search small-holds, (search small-holds, s .pre .1))))
+    (λ c κs. (omega arith, (search small-holds, c .before .before .before .before .pre .1)))
     (λ c. search needs)
     (λ c. search needs))

@@ -1,0 +1,3 @@
+-- How many sets there are, and worked values.
+pub mod Sizes
+pub mod Examples

@@ -1,0 +1,3 @@
+-- Families of sets as tables of bits.
+pub mod Marks
+pub mod MarkLaws
