@@ -10,8 +10,8 @@
  * - n is the number of replicas. A mask of replicas has bit s for replica s. A row is a set of shards, with bit i for shard i.
  * - `ceiling` says what `width` is: 0 for the exact width of a layout, otherwise the most that it may be.
  * - There is no state and no allocation: calls may run side by side if they share no tally and no memory that one of them writes.
- * - The stack that a call takes, as measured by bindings/rust/examples/stack.rs: callboard_fault_list at most 13 KiB, callboard_pick_assignment 11,
- *   callboard_parse_profile 6, every other function 3. A refused call may take as much.
+ * - The stack that a call takes, as bindings/rust/examples/stack.rs measures it: callboard_fault_list at most 13 KiB,
+ *   callboard_pick_assignment 11, callboard_parse_profile 6, every other function 3. A refused call may take as much.
  *
  * Numbers that refuse
  *
@@ -194,8 +194,8 @@ callboard_answer callboard_gossip_targets_excl(uint64_t n, uint64_t own, uint64_
 callboard_tally_opening callboard_tally_open(uint64_t n, uint64_t quorum, uint64_t d, uint64_t w, uint64_t ballot, uint64_t high,
                                              uint64_t low);
 
-/* Counts a reply and answers whether the value is committed. `t` must not be NULL. A refused reply writes nothing to it; one after commitment
- * leaves every word of it as it was.
+/* Counts a reply and answers whether the value is committed. `t` must not be NULL. A refused reply writes nothing to it; one after
+ * commitment leaves every word of it as it was.
  * Refusals: 1, 3, 4, 5, 16, 17, 23. */
 callboard_reply callboard_accept_reply(callboard_tally *t, uint64_t source, uint64_t ballot, uint64_t high, uint64_t low, uint64_t row,
                                        const uint64_t *faults, size_t faults_len);
