@@ -1,8 +1,8 @@
--- What each term of a predicted time counts: a MiB takes the slope, no bytes take the delay and the jitter, and a penalty counts by the
--- unreliability. Assumes nothing.
+-- What each term of a predicted time counts: a MiB takes the slope, no bytes take the delay and the jitter, a penalty counts by the
+-- unreliability, and a shard to be sent counts as its bytes in flight do. Assumes nothing.
 use mathlib.Core.Path.{_≡_, refl, ap, ap₂, _∙_}
-use mathlib.Core.Bool.{true, false}
-use Prim.Native.Nat.{ℕ, zero, suc, _*_, _<_}
+use mathlib.Core.Bool.{Bool, true, false}
+use Prim.Native.Nat.{ℕ, zero, suc, _+_, _*_, _<_}
 use native.Mathlib.Nat.{zero-mul, one-mul, mul-zero, mul-one, mul-pos, zero-lt-suc}
 use native.Mathlib.Omega.{arith}
 use lib.Dec.{T}
@@ -15,9 +15,10 @@ use lib.Ieee.Scale.{round-same}
 use Rattle.floats.specs.Floats.{plusZero, one}
 use Rattle.floats.specs.FirstLaws.{Fits}
 use Rattle.floats.proofs.Shrink.{own-is, round-zero}
-use Rattle.times.specs.Times.{mebibyte, predictOf, settled, replyTime}
+use Rattle.times.specs.Times.{mebibyte, predictOf, settled, replyTime, timeAt}
 use Rattle.times.specs.declared.PerfModel.{PerfModel}
 use Rattle.times.specs.declared.Peer.the-variants.{Heard}
+use Rattle.times.specs.declared.PeerRecord.{PeerRecord}
 
 -- ---- one and zero, of doubles above 0
 times-one : (x : Float) → T (positive x) → Fits x → mul binary64 x one ≡ x
@@ -109,3 +110,15 @@ module _ (slope delay jitter : Float) (x : ℕ) (penalty : Float) (paid : T (pos
   pub whole-penalty : Fits penalty → replyTime (Heard slope delay jitter one) x penalty ≡ settled (add binary64 modelTime penalty)
   unfolding replyTime
   whole-penalty f = rw (one-times penalty paid f)
+
+-- ---- a peer's load
+module _ (r : PeerRecord) (len : ℕ) (penalty : Float) where
+  -- no shard takes as long as the bytes in flight alone
+  pub no-load : timeAt false r 0 len penalty ≡ replyTime (r .peer) (r .inflight) penalty
+  unfolding timeAt
+  no-load = ap (λ (x : ℕ). replyTime (r .peer) x penalty) (omega (arith, zero-mul len))
+
+  -- k shards take as long as no shard with their bytes in flight
+  pub load-counts : (k : ℕ) → timeAt false r k len penalty ≡ timeAt false (record { peer = r .peer; inflight = r .inflight + k * len }) 0 len penalty
+  unfolding timeAt
+  load-counts k = ap (λ (x : ℕ). replyTime (r .peer) x penalty) (omega (arith, zero-mul len))
