@@ -23,7 +23,7 @@ use Rattle.refusals.specs.Outcome.{Outcome, refused, accepted, checked, outcome
 use Rattle.refusals.specs.Limits.{isPopulation, isShards, isRow}
 use Rattle.refusals.specs.LimitLaws.{AreRows, population-means, shards-means}
 use Rattle.numerals.specs.Text.{without, isText, isEmpty, isByte, cut, hasByte, before, behind, split}
-use Rattle.numerals.specs.TextLaws.{PartOf, cut-le}
+use Rattle.numerals.specs.TextLaws.{PartOf, Ascii, text-means, cut-le}
 use Rattle.numerals.specs.ReadLaws.{read-keeps, read-refused}
 use Rattle.numerals.specs.Whole.{isDigits, wholeOf, belowOf, membersOf}
 use Rattle.numerals.specs.WholeLaws.{below-limit, members-below}
@@ -218,7 +218,7 @@ module _ (n d total : ℕ) (s : List ℕ) where
   pub record Readable : Type 0 where
     pub population : (1 ≤ n) × (n ≤ 16)
     pub shards : (1 ≤ d) × (d ≤ total) × (total ≤ 64)
-    pub text : isText mostBytes s ≡ true
+    pub text : Ascii mostBytes s
 
   pub readable : (inputRefusal n d total s ≡ 0) ↔ Readable
   unfolding inputRefusal
@@ -228,9 +228,9 @@ module _ (n d total : ℕ) (s : List ℕ) where
         record {
           population = population-means n .0 (not-false _ (h .0));
           shards = shards-means d total .0 (not-false _ (h .1 .0));
-          text = not-false _ (h .1 .1 .0);
+          text = text-means mostBytes s .0 (not-false _ (h .1 .1 .0));
         },
-    λ r. simp (population-means n .1 (r .population), shards-means d total .1 (r .shards), r .text),
+    λ r. simp (population-means n .1 (r .population), shards-means d total .1 (r .shards), text-means mostBytes s .1 (r .text)),
   )
 
 -- a total of as many shards for each, and a table of n words
