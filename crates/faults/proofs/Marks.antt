@@ -20,13 +20,8 @@ use Rattle.bitmap.proofs.Words.{one-shl}
 use Rattle.marks.specs.Marks.{flagged, withFlag}
 use Rattle.marks.specs.MarkLaws.{flagged-with, none-flagged}
 use Rattle.faults.specs.Family.{timesOf, isSized, isAmong}
+use Rattle.faults.specs.FamilyLaws.{times-none}
 use Rattle.faults.specs.Marks.{isHit, Marked}
-
--- no member: the product is what it was
-pub times-none : (ps : List Float) (a : Float) → timesOf ps 0 a ≡ a
-unfolding timesOf
-times-none [] a = refl
-times-none (p ∷ ps) a = times-none ps a
 
 -- a test is true or false, with the equation
 pub either : (b : Bool) → (b ≡ true) ⊎ (b ≡ false)

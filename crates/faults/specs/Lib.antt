@@ -3,4 +3,5 @@ pub mod Family
 pub mod Marks
 pub mod FaultList
 pub mod FaultListLaws
+pub mod FamilyLaws
 pub mod RefusalLaws

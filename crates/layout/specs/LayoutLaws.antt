@@ -17,7 +17,7 @@ use Rattle.lists.specs.All.{all}
 use Rattle.lists.specs.BelowLaws.{each-below-length, each-below-at, each-below-all}
 use Rattle.bitmap.specs.Mask.{bit, count, run, runModulo, rowIn}
 use Rattle.bitmap.specs.Members.{Many}
-use Rattle.bitmap.specs.RunLaws.{run-all, gather-means}
+use Rattle.bitmap.specs.RunLaws.{Among, run-all, gather-means}
 use Rattle.bitmap.specs.WidthLaws.{run-below}
 use Rattle.bitmap.specs.RunCounts.{run-count, run-modulo-count}
 use Rattle.refusals.specs.Outcome.{accepted}
@@ -149,6 +149,19 @@ module _ (d : ℕ) (total : TotalShards) (loads : List ℕ) where
   -- that of a full load is the shards 0 to d - 1
   pub rows-full : (s : ℕ) → s < length loads → d ≤ getD loads s 0 → rowIn (rowsOf d total loads) s ≡ run 0 d
   rows-full s l h = row-at s l ∙ row-full d (widthOf d total loads) (partial d (take s loads)) (getD loads s 0) h
+
+  -- that of another load is so many shards from what was dealt before it on, modulo the width
+  pub rows-dealt : (s : ℕ) → s < length loads → getD loads s 0 < d → (x : ℕ)
+      → (bit (rowIn (rowsOf d total loads) s) x ≡ 1)
+      ↔ Among (λ (i : ℕ). (partial d (take s loads) + i) % widthOf d total loads) (getD loads s 0) x
+  unfolding rowFor
+  rows-dealt s l h x =
+      let w = widthOf d total loads in
+      let k = getD loads s 0 in
+      let e : rowIn (rowsOf d total loads) s ≡ runModulo w (partial d (take s loads)) k =
+      row-at s l ∙ ap (λ (b : Bool). cond b (runModulo w (partial d (take s loads)) k) (run 0 d)) (lt-ltb k d h) in
+      let m = gather-means (λ (i : ℕ). (partial d (take s loads) + i) % w) x k in
+      (λ t. m .0 (ap (λ (r : ℕ). bit r x) (sym e) ∙ t), λ t. ap (λ (r : ℕ). bit r x) e ∙ m .1 t)
 
   module _ (h : Fit d (bound total)) where
     -- of shards below the width: with `rows-length`, they pass the checks of `covers` for 16 and 17
