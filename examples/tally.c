@@ -9,7 +9,7 @@ int main(void) {
     callboard_tally tally = callboard_tally_open(3, 2, 2, 3, 1, 0, 42).tally;
 
     uint64_t sources[] = {0, 1, 2, 1};
-    uint64_t rows[] = {1 << 0, 1 << 0, 1 << 1, 1 << 2}; /* the second is a copy of the first */
+    callboard_row rows[] = {{{1 << 0}}, {{1 << 0}}, {{1 << 1}}, {{1 << 2}}}; /* the second is a copy of the first */
     for (int i = 0; i < 4; i++) {
         callboard_reply said = callboard_accept_reply(&tally, sources[i], 1, 0, 42, rows[i], faults, sets.value);
         if (said.refusal != 0) {

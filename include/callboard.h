@@ -6,12 +6,14 @@
  * - The first field of every answer is `refusal`: 0, or one of the numbers below. After a refusal every other field is 0, and nothing was
  *   written into lent memory or a tally. Checks run in the order that each function lists; the first case that holds is the answer.
  * - A list is a pointer and its length in elements; the pointer of a list of length 0 is not read. Memory that a function writes must not
- *   overlap anything else that it is lent. Where a length must be n and is not, that is refusal 17.
- * - n is the number of replicas. A mask of replicas has bit s for replica s. A row is a set of shards, with bit i for shard i.
+ *   overlap anything else that it is lent. Where a length must be n, or 4 n for n rows, and is not, that is refusal 17.
+ * - n is the number of replicas. A mask of replicas has bit s for replica s.
+ * - A row is a set of shards in four words: shard i is bit i % 64 of word i / 64. A table of rows has the four words of replica 0, then
+ *   those of replica 1, and so on: 4 n words for n rows, where row s starts at word 4 s. A single row is passed by value.
  * - `ceiling` says what `width` is: 0 for the exact width of a layout, otherwise the most that it may be.
  * - There is no state and no allocation: calls may run side by side if they share no tally and no memory that one of them writes.
- * - The stack that a call takes, as bindings/rust/examples/stack.rs measures it: callboard_fault_list at most 13 KiB,
- *   callboard_pick_assignment 11, callboard_parse_profile 6, every other function 3. A refused call may take as much.
+ * - The stack that a call takes, as bindings/rust/examples/stack.rs measures it: callboard_pick_assignment 35 KiB, callboard_fault_list at
+ *   most 13, callboard_parse_profile 6, every other function 3. A refused call may take as much.
  *
  * Numbers that refuse
  *
@@ -19,9 +21,9 @@
  *    1  population: not 1 to 16
  *    2  fault tolerance: not 0 to n - 1
  *    3  own, peer or source number not below n
- *    4  data shards not 1 to 64, or a width, exact or ceiling, not d to 64
+ *    4  data shards not 1 to 255, or a width, exact or ceiling, not d to 255
  *    5  quorum or majority: not 1 to n
- *    6  text longer than 4,096 bytes, or with a byte above 127
+ *    6  text longer than 4,096 bytes (a layout's: 16,384), or with a byte above 127
  *    7  malformed numeral, or a whole number above 255
  *    8  well-formed decimal with more than 15 digits, more than 4 exponent digits, or a power of ten outside -22 to 22
  *    9  replica or shard number in a text or profile outside its range
@@ -49,7 +51,21 @@
 extern "C" {
 #endif
 
-/* Answers */
+/* Limits */
+
+#define CALLBOARD_REPLICAS 16     /* the largest population */
+#define CALLBOARD_SHARDS 255      /* the most shards of a layout */
+#define CALLBOARD_ROW_WORDS 4     /* the words of a row */
+#define CALLBOARD_DOMAINS 64      /* the failure domains of a profile */
+#define CALLBOARD_FAULT_SETS 12870 /* the longest fault list */
+#define CALLBOARD_PROFILE_TEXT 4096
+#define CALLBOARD_LAYOUT_TEXT 16384
+
+/* Rows and answers */
+
+typedef struct {
+    uint64_t words[4];
+} callboard_row;
 
 typedef struct {
     uint64_t refusal, value;
@@ -88,7 +104,8 @@ typedef struct {
 
 /* The tally of accept replies for one value. Callers keep it and hand it back; only the functions below change it. */
 typedef struct {
-    uint64_t population, quorum, data_shards, width, ballot, value_high, value_low, heard, committed, rows[16];
+    uint64_t population, quorum, data_shards, width, ballot, value_high, value_low, heard, committed;
+    uint64_t rows[64]; /* four words a replica */
 } callboard_tally;
 
 typedef struct {
@@ -159,7 +176,7 @@ callboard_answer callboard_full_copies(uint64_t n, uint64_t d, uint64_t ceiling,
 callboard_answer callboard_min_shards_per_replica(uint64_t n, uint64_t f, uint64_t d, uint64_t majority, uint64_t alive);
 
 /* Chooses the initial layout, or a count of shards a replica. `models` has 3 floats a replica (slope, delay, jitter); our own record is
- * unread. `init` has n rows. `table` is empty, or has n rows for each whole count from d / majority to d.
+ * unread. `init` has n rows. `table` is empty, or has n rows for each whole count from d / majority to d, rising.
  * Refusals: 1, 2, 3, 4, 5, 14, 15, 16, 17. */
 callboard_choice callboard_pick_assignment_policy(uint64_t n, uint64_t f, uint64_t own, uint64_t d, uint64_t w, uint64_t majority,
                                                   uint64_t size, uint64_t adaptive, uint64_t balanced, const double *models,
@@ -167,7 +184,7 @@ callboard_choice callboard_pick_assignment_policy(uint64_t n, uint64_t f, uint64
                                                   const uint64_t *init, size_t init_len, const uint64_t *table, size_t table_len);
 
 /* The same, and writes the n rows of that choice.
- * Refusals: the same; 17 also if `rows` does not have n words. */
+ * Refusals: the same; 17 also if `rows` does not have 4 n words. */
 callboard_choice callboard_policy_rows(uint64_t n, uint64_t f, uint64_t own, uint64_t d, uint64_t w, uint64_t majority, uint64_t size,
                                        uint64_t adaptive, uint64_t balanced, const double *models, size_t models_len,
                                        const uint64_t *inflight, size_t inflight_len, uint64_t alive, const uint64_t *init,
@@ -181,9 +198,9 @@ callboard_answer callboard_parse_init_assignment(uint64_t n, uint64_t d, uint64_
 /* Gossip */
 
 /* Which peers to ask for shards that are missing, given those `available`. Answers the mask of those asked, and writes for each of the n
- * replicas the shards that it is to leave out, 0 for one that is not asked.
+ * replicas the row of the shards that it is to leave out, empty for one that is not asked.
  * Refusals: 1, 3, 4, 16, 17. */
-callboard_answer callboard_gossip_targets_excl(uint64_t n, uint64_t own, uint64_t source, uint64_t d, uint64_t w, uint64_t available,
+callboard_answer callboard_gossip_targets_excl(uint64_t n, uint64_t own, uint64_t source, uint64_t d, uint64_t w, callboard_row available,
                                                const uint64_t *rows, size_t rows_len, uint64_t alive, uint64_t *exclusions,
                                                size_t exclusions_len);
 
@@ -197,7 +214,7 @@ callboard_tally_opening callboard_tally_open(uint64_t n, uint64_t quorum, uint64
 /* Counts a reply and answers whether the value is committed. `t` must not be NULL. A refused reply writes nothing to it; one after
  * commitment leaves every word of it as it was.
  * Refusals: 1, 3, 4, 5, 16, 17, 23. */
-callboard_reply callboard_accept_reply(callboard_tally *t, uint64_t source, uint64_t ballot, uint64_t high, uint64_t low, uint64_t row,
+callboard_reply callboard_accept_reply(callboard_tally *t, uint64_t source, uint64_t ballot, uint64_t high, uint64_t low, callboard_row row,
                                        const uint64_t *faults, size_t faults_len);
 
 #ifdef __cplusplus

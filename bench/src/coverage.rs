@@ -4,7 +4,7 @@ use std::hint::black_box;
 
 use oracle::api::{self, CoverCase, SurvivalCase};
 
-use crate::inputs::{everyone, fault_masks, round_robin, rust_row};
+use crate::inputs::{NARROW, WIDE, add_shard, everyone, fault_masks, round_robin, width_note};
 use crate::timing::{Case, Sides};
 
 /// What the listed sets leave.
@@ -19,14 +19,20 @@ enum Left {
 
 pub fn cases() -> Vec<Case> {
     let mut cases = vec![];
-    for (n, f, count) in [(5, 2, 4), (16, 3, 3)] {
+    for (n, f, count, most) in [
+        (5, 2, 4, NARROW),
+        (5, 2, 50, WIDE),
+        (16, 3, 3, NARROW),
+        (16, 3, 15, WIDE),
+    ] {
         for (left, note) in [
             (Left::Enough, "covered"),
             (Left::NotByFirst, "not by the first"),
             (Left::NotByLast, "not by the last"),
         ] {
-            let name = format!("covers n {n}, {} sets, {note}", fault_masks(n, f).len());
-            let case = Case::new(name, move || covers(n, f, count, left));
+            let (wide, sets) = (width_note(most), fault_masks(n, f).len());
+            let name = format!("covers n {n}{wide}, {sets} sets, {note}");
+            let case = Case::new(name, move || covers(n, f, count, most, left));
             cases.push(match left {
                 Left::NotByFirst => case.beside("every listed set is checked before one is tried"),
                 _ => case,
@@ -40,22 +46,24 @@ pub fn cases() -> Vec<Case> {
     cases
 }
 
-/// Rows of `count` shards each that no other row has, so that any n - f of them have d together.
-fn covers(n: u8, f: u8, count: u8, left: Left) -> Sides {
-    let (mut d, mut w) = ((n - f) * count, n * count);
-    let mut rows = round_robin(n, count, count, w);
+/// Rows of `count` shards each that no other row has, so that any n - f of them have d together. A
+/// narrow case has no wider rows than these need.
+fn covers(n: u8, f: u8, count: u8, most: u8, left: Left) -> Sides {
+    let (mut d, mut used) = ((n - f) * count, n * count);
+    let mut rows = round_robin(n, count, count, used);
     if !matches!(left, Left::Enough) {
         d += 1;
     }
     if matches!(left, Left::NotByLast) {
         // a shard more, which every set but the last leaves
         for row in &mut rows[usize::from(n - f)..] {
-            *row |= 1 << w;
+            add_shard(row, used.into());
         }
-        w += 1;
+        used += 1;
     }
+    let w = if most == NARROW { used } else { most };
     let masks = fault_masks(n, f);
-    let acks: Vec<_> = rows.iter().map(|&row| Some(rust_row(row))).collect();
+    let acks: Vec<_> = rows.iter().copied().map(Some).collect();
     let case = CoverCase::new(n, &masks, w, &acks);
     let judged = api::covers(n, &masks, w, &acks, d).unwrap();
     let ask = move || {

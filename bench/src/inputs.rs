@@ -1,7 +1,7 @@
 //! What the inputs of several cases are made from.
 
-use callboard::TotalShards;
-use oracle::api::{Profile, Row, Total};
+use callboard::{Row, TotalShards};
+use oracle::api::{Profile, Total};
 
 pub const NO_PROFILE: Profile = Profile {
     domains: vec![],
@@ -9,9 +9,30 @@ pub const NO_PROFILE: Profile = Profile {
     runtime: false,
 };
 
-/// At most as many shards as the port takes.
-pub const TOTAL: Total = Total::AtMost(64);
-pub const PORT_TOTAL: TotalShards = TotalShards::AtMost(64);
+/// The most shards of a layout: what a row's first word has room for, and as many as there can be.
+pub const NARROW: u8 = 64;
+pub const WIDE: u8 = 255;
+
+/// A row without a shard.
+pub const EMPTY: Row = [0; 4];
+
+/// At most so many shards, for the original.
+pub fn total(most: u8) -> Total {
+    Total::AtMost(most)
+}
+
+/// The same for the port.
+pub fn port_total(most: u8) -> TotalShards {
+    TotalShards::AtMost(most.into())
+}
+
+/// What the name of a case says of its width: nothing if it is narrow.
+pub fn width_note(w: u8) -> String {
+    if w <= NARROW {
+        return String::new();
+    }
+    format!(" w {w}")
+}
 
 /// The mask of the replicas below n.
 pub fn everyone(n: u8) -> u64 {
@@ -26,19 +47,19 @@ pub fn fault_masks(n: u8, f: u8) -> Vec<u64> {
 }
 
 /// A row for each of n replicas: `count` shards from its number times `step` on, modulo w.
-pub fn round_robin(n: u8, count: u8, step: u8, w: u8) -> Vec<u64> {
-    let shard = |r: u8, i: u8| (u32::from(r) * u32::from(step) + u32::from(i)) % u32::from(w);
-    let row = |r: u8| (0..count).fold(0, |row, i| row | 1 << shard(r, i));
+pub fn round_robin(n: u8, count: u8, step: u8, w: u8) -> Vec<Row> {
+    let shard =
+        |r: u8, i: u8| (usize::from(r) * usize::from(step) + usize::from(i)) % usize::from(w);
+    let row = |r: u8| {
+        let mut row = EMPTY;
+        (0..count).for_each(|i| add_shard(&mut row, shard(r, i)));
+        row
+    };
     (0..n).map(row).collect()
 }
 
-/// The row in the original's form.
-pub fn rust_row(row: u64) -> Row {
-    [row, 0, 0, 0]
-}
-
-pub fn rust_rows(rows: &[u64]) -> Vec<Row> {
-    rows.iter().copied().map(rust_row).collect()
+pub fn add_shard(row: &mut Row, shard: usize) {
+    row[shard / 64] |= 1 << (shard % 64);
 }
 
 /// The profile in the port's form.

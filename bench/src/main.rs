@@ -1,6 +1,9 @@
 //! Times the port beside the original Rust on the same prepared inputs, and fails if a case is
-//! below its target, or below 1; cases that must do more than the original are named. With words as arguments, only the cases whose names have one of
-//! them are timed.
+//! below its target, or below 1; cases that must do more than the original are named. With words as
+//! arguments, only the cases whose names have one of them are timed.
+//!
+//! Cases of widths up to 64 have the names that they had when rows were one word; those of a width
+//! of 255 stand beside them with `w 255` in their names.
 
 mod clock;
 mod coverage;

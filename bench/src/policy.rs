@@ -2,10 +2,10 @@
 
 use std::hint::black_box;
 
-use callboard::{Choice, PolicyInput, Refusal};
-use oracle::api::{self, Model, PolicyCase, Row};
+use callboard::{Choice, PolicyInput, Refusal, Row};
+use oracle::api::{self, Model, PolicyCase};
 
-use crate::inputs::{everyone, round_robin, rust_rows};
+use crate::inputs::{EMPTY, WIDE, everyone, round_robin, width_note};
 use crate::timing::{Case, Sides};
 
 /// The bytes of the value.
@@ -13,19 +13,30 @@ const SIZE: usize = 1 << 20;
 
 pub fn cases() -> Vec<Case> {
     let mut cases = vec![];
-    for (n, f, d, w, majority) in [(5, 2, 12, 20, 3), (16, 7, 64, 64, 8), (16, 0, 64, 64, 16)] {
-        let what = format!("n {n} d {d} majority {majority}");
+    for (n, f, d, w, majority) in [
+        (5, 2, 12, 20, 3),
+        (5, 2, 255, WIDE, 3),
+        (16, 7, 64, 64, 8),
+        (16, 7, 248, WIDE, 8),
+        (16, 0, 64, 64, 16),
+        (16, 0, 240, WIDE, 16),
+    ] {
+        let what = format!("n {n} d {d}{} majority {majority}", width_note(w));
         cases.push(Case::new(
             format!("min_shards_per_replica {what}"),
             move || floor(n, f, d, majority),
         ));
         let site = Site::new(n, f, d, w, majority);
         let other = site.clone();
-        cases.push(Case::new(format!("policy {what}"), || {
+        let choice = Case::new(format!("policy {what}"), || {
             policy(site, |input, _| callboard::pick_assignment_policy(input))
-        }));
-        cases.push(Case::new(format!("policy_rows {what}"), || {
+        });
+        let rows = Case::new(format!("policy_rows {what}"), || {
             policy(other, callboard::policy_rows)
+        });
+        cases.extend([choice, rows].map(|case| match w {
+            WIDE => case.beside("every row of a table of 855 to 3,616 rows is checked"),
+            _ => case,
         }));
     }
     cases
@@ -60,8 +71,8 @@ struct Site {
     majority: u8,
     models: Vec<[f64; 3]>,
     inflight: Vec<u64>,
-    init: Vec<u64>,
-    table: Vec<u64>,
+    init: Vec<Row>,
+    table: Vec<Row>,
 }
 
 impl Site {
@@ -113,28 +124,28 @@ impl Site {
     fn rust_table(&self) -> Vec<(u8, Vec<Row>)> {
         let counts = self.d / self.majority..;
         counts
-            .zip(self.table.chunks(self.n.into()).map(rust_rows))
+            .zip(self.table.chunks(self.n.into()).map(<[Row]>::to_vec))
             .collect()
     }
 
     fn case(&self) -> PolicyCase {
-        let (init, table) = (rust_rows(&self.init), self.rust_table());
+        let (init, table) = (&self.init, self.rust_table());
         let (n, f, d, w, majority) = (self.n, self.f, self.d, self.w, self.majority);
         let (models, alive) = (self.rust_models(), everyone(n));
         PolicyCase::new(
-            true, true, w, &init, &table, d, majority, f, &models, 0.0, None, n, alive,
+            true, true, w, init, &table, d, majority, f, &models, 0.0, None, n, alive,
         )
     }
 }
 
 fn policy(
     site: Site,
-    entry: impl Fn(PolicyInput, &mut [u64]) -> Result<Choice, Refusal> + 'static,
+    entry: impl Fn(PolicyInput, &mut [Row]) -> Result<Choice, Refusal> + 'static,
 ) -> Sides {
     let case = site.case();
-    let mut rows = vec![0; site.n.into()];
+    let mut rows = vec![EMPTY; site.n.into()];
     let choice = callboard::policy_rows(site.input(), &mut rows);
-    assert_eq!(rust_rows(&rows), case.rows(SIZE));
+    assert_eq!(rows, case.rows(SIZE));
     assert!(matches!(choice, Ok(Choice::Balanced(_))));
     assert_eq!(entry(site.input(), &mut rows), choice);
     Sides::new(

@@ -16,7 +16,7 @@ pub fn print(all: &[Measured]) {
 }
 
 fn print_row(case: &str, rust: &str, port: &str, ratio: &str, target: &str) {
-    let row = format!("{case:54} {rust:>10} {port:>10} {ratio:>8} {target:>6}");
+    let row = format!("{case:61} {rust:>10} {port:>10} {ratio:>8} {target:>6}");
     println!("{}", row.trim_end());
 }
 

@@ -4,11 +4,14 @@ use std::hint::black_box;
 
 use oracle::api;
 
-use crate::inputs::{port_profile, rust_rows};
+use callboard::Row;
+
+use crate::inputs::{EMPTY, NARROW, WIDE, port_profile, width_note};
 use crate::timing::{Case, Sides};
 
-/// The most bytes that a text may have.
+/// The most bytes that a profile's text may have, and a layout text.
 const LONGEST: usize = 4096;
+const LONGEST_LAYOUT: usize = 16_384;
 /// A decimal of as many digits as are allowed.
 const DECIMAL: &str = "0.12345678901234";
 
@@ -22,10 +25,33 @@ pub fn cases() -> Vec<Case> {
         profile(16, "domains", many_domains()),
         profile(16, "mechanisms", many_mechanisms()),
         init(5, 12, 20, "empty", String::new()),
+        init(5, 153, WIDE, "empty", String::new()),
         init(5, 12, 20, "a number", "6".into()),
+        init(5, 153, WIDE, "a number", "51".into()),
         init(5, 12, 20, "segments", "0:0,1/1:2,3/2:4,5/4:6,7".into()),
-        init(16, 32, 64, "segments", many_segments()),
+        init(
+            5,
+            153,
+            WIDE,
+            "segments",
+            "0:0,1/1:64,65/2:250,251/4:6,7".into(),
+        ),
+        init(16, 32, 64, "segments", many_segments(16, NARROW, LONGEST)),
+        init(
+            15,
+            128,
+            WIDE,
+            "segments",
+            many_segments(15, WIDE, LONGEST_LAYOUT),
+        ),
         init(16, 32, 64, "a number", format!("{:0>LONGEST$}", 7)),
+        init(
+            15,
+            128,
+            WIDE,
+            "a number",
+            format!("{:0>LONGEST_LAYOUT$}", 17),
+        ),
     ]
 }
 
@@ -35,7 +61,8 @@ fn profile(n: u8, note: &str, text: String) -> Case {
 }
 
 fn init(n: u8, d: u8, total: u8, note: &str, text: String) -> Case {
-    let name = format!("parse_init_assignment, {} bytes, {note}", text.len());
+    let (wide, bytes) = (width_note(total), text.len());
+    let name = format!("parse_init_assignment{wide}, {bytes} bytes, {note}");
     Case::new(name, move || parse_init_assignment(n, d, total, text))
 }
 
@@ -57,14 +84,14 @@ fn many_mechanisms() -> String {
     "runtime ; none;\t;runtime:of 30s;".repeat(LONGEST / 32)
 }
 
-/// All the shards for each replica in turn, as far as the text goes.
-fn many_segments() -> String {
-    let shards: Vec<_> = (0..64).map(|shard| shard.to_string()).collect();
-    let segments: Vec<_> = (0..16)
+/// All the shards below w for each of n replicas in turn, as far as the text goes.
+fn many_segments(n: u8, w: u8, longest: usize) -> String {
+    let shards: Vec<_> = (0..w).map(|shard| shard.to_string()).collect();
+    let segments: Vec<_> = (0..n)
         .map(|r| format!("{r}:{}", shards.join(",")))
         .collect();
     let mut text = [segments.join("/"), segments.join("/")].join("/");
-    text.truncate(LONGEST);
+    text.truncate(longest);
     text
 }
 
@@ -83,13 +110,13 @@ fn parse_profile(n: u8, text: String) -> Sides {
 fn parse_init_assignment(n: u8, d: u8, total: u8, text: String) -> Sides {
     let judged = api::parse_init_assignment(n, total, d, &text).unwrap();
     let bytes = text.clone().into_bytes();
-    let ask = move |rows: &mut [u64]| {
+    let ask = move |rows: &mut [Row]| {
         let text = black_box(&bytes);
         callboard::parse_init_assignment(n.into(), d.into(), total.into(), text, rows).unwrap();
     };
-    let mut rows = vec![0; n.into()];
+    let mut rows = vec![EMPTY; n.into()];
     ask(&mut rows);
-    assert_eq!(rust_rows(&rows), judged);
+    assert_eq!(rows, judged);
     Sides::new(
         move || api::run_init(n, total, d, black_box(&text)),
         move || ask(black_box(&mut rows)),

@@ -1,4 +1,5 @@
-//! The refusals of document 01, written from the papers and not from the port.
+//! The refusals of document 01 as request M-110 has changed them, written from the papers and not
+//! from the port.
 //!
 //! The first part has the single checks, each under the sentence that it comes from; the second has
 //! the entries, each the list of its checks in the order in which they run. The first check that
@@ -34,9 +35,9 @@ fn replica(n: u64, number: u64) -> Checked {
     refuse(3, number >= n)
 }
 
-/// "Data shards d: 1 to 64. Width w, or its ceiling: d to 64."
+/// "Data shards d: 1 to [..]. Width w, or its ceiling: d to [..]." "Raise d and w to 255."
 fn shards(d: u64, w: u64) -> Checked {
-    refuse(4, !(1..=64).contains(&d) || !(d..=64).contains(&w))
+    refuse(4, !(1..=255).contains(&d) || !(d..=255).contains(&w))
 }
 
 /// "Quorum and majority: 1 to n."
@@ -63,10 +64,13 @@ fn mask(n: u64, mask: u64) -> Checked {
     refuse(16, mask >> n != 0)
 }
 
-/// "16 a row or reply with a shard at or above the width". Every word of a lent table is a row,
-/// whatever the table's length (DECISIONS, point 1).
-fn rows(w: u64, rows: &[u64]) -> Checked {
-    refuse(16, w < 64 && rows.iter().any(|row| row >> w != 0))
+/// "16 a row or reply with a shard at or above the width". "Rows become four 64-bit words [..],
+/// lowest shards first". Every row of a lent table counts, whatever the table's length, and a last
+/// one that is not whole has the words that are there (DECISIONS, point 1).
+fn rows(w: u64, words: &[u64]) -> Checked {
+    let highest = |(at, word): (u64, &u64)| Some(at % 4 * 64 + u64::from(word.checked_ilog2()?));
+    let mut highest = (0..).zip(words).filter_map(highest);
+    refuse(16, highest.any(|shard| shard >= w))
 }
 
 /// "17 a lent table of the wrong length"
@@ -74,9 +78,17 @@ fn length(len: usize, right: u64) -> Checked {
     refuse(17, len as u64 != right)
 }
 
+/// "lent row tables have four words a row"
+fn row_words(len: usize, rows: u64) -> Checked {
+    length(len, 4 * rows)
+}
+
 /// "The table has n rows for each whole count, rising, from d / majority to d, or is empty".
 fn table(n: u64, d: u64, majority: u64, len: usize) -> Checked {
-    refuse(17, len != 0 && len as u64 != n * (d - d / majority + 1))
+    match len {
+        0 => Ok(()),
+        len => row_words(len, n * (d - d / majority + 1)),
+    }
 }
 
 /// "17 [..] a fault list that is empty, or has a mask naming all n replicas or one at or above n"
@@ -88,9 +100,9 @@ fn fault_list(n: u64, faults: &[u64]) -> Checked {
 
 // Texts.
 
-/// "Texts: at most 4,096 bytes, all below 128."
-fn text(text: &[u8]) -> Checked {
-    refuse(6, text.len() > 4096 || !text.is_ascii())
+/// "Texts: at most 4,096 bytes, all below 128." "Layout texts may now have 16,384 bytes".
+fn text(text: &[u8], most: usize) -> Checked {
+    refuse(6, text.len() > most || !text.is_ascii())
 }
 
 /// "trimmed (bytes 9 to 13 and 32)"
@@ -304,7 +316,7 @@ pub fn maximal(n: u64, f: u64, p: &Profile) -> Vec<u64> {
 
 pub fn profile(i: &profile::Input) -> Checked {
     population(i.n)?;
-    text(&i.text.0)?;
+    text(&i.text.0, 4096)?;
     profile_text(i.n, &i.text.0)
 }
 
@@ -330,7 +342,7 @@ pub fn covers(i: &covers::Input) -> Checked {
     shards(i.d, i.w)?;
     mask(i.n, i.heard)?;
     rows(i.w, &i.rows)?;
-    length(i.rows.len(), i.n)?;
+    row_words(i.rows.len(), i.n)?;
     fault_list(i.n, &i.faults)
 }
 
@@ -344,7 +356,7 @@ pub fn layout_rows(i: &layout::RowsInput) -> Checked {
     population(i.n)?;
     shards(i.d, i.total.width)?;
     length(i.loads.len(), i.n)?;
-    length(i.room, i.n)
+    row_words(i.room, i.n)
 }
 
 pub fn layout_commits(i: &layout::CommitsInput) -> Checked {
@@ -353,7 +365,7 @@ pub fn layout_commits(i: &layout::CommitsInput) -> Checked {
     quorum(i.n, i.quorum)?;
     mask(i.n, i.answered)?;
     length(i.loads.len(), i.n)?;
-    length(i.room, i.n)?;
+    row_words(i.room, i.n)?;
     fault_list(i.n, &i.faults)
 }
 
@@ -369,17 +381,17 @@ pub fn plan(i: &plan::Input) -> Checked {
     mask(i.n, i.heard)?;
     length(i.models.len(), i.n)?;
     length(i.inflight.len(), i.n)?;
-    length(i.room, i.n)?;
+    row_words(i.room, i.n)?;
     fault_list(i.n, &i.faults)
 }
 
 pub fn full_copies(i: &full::Input) -> Checked {
     population(i.n)?;
     shards(i.d, i.total.width)?;
-    length(i.room, i.n)
+    row_words(i.room, i.n)
 }
 
-/// The floor has no width: "Data shards d: 1 to 64" alone is its 4.
+/// The floor has no width: "Data shards d: 1 to [..]" alone is its 4.
 pub fn floor(i: &floor::Input) -> Checked {
     population(i.n)?;
     tolerance(i.n, i.f)?;
@@ -400,7 +412,7 @@ pub fn policy(i: &policy::Input) -> Checked {
     mask(i.n, i.alive)?;
     rows(i.w, &i.init)?;
     rows(i.w, &i.table)?;
-    length(i.init.len(), i.n)?;
+    row_words(i.init.len(), i.n)?;
     table(i.n, i.d, i.majority, i.table.len())?;
     length(i.models.len(), i.n)?;
     length(i.inflight.len(), i.n)
@@ -408,18 +420,18 @@ pub fn policy(i: &policy::Input) -> Checked {
 
 pub fn policy_rows(i: &policy::Input) -> Checked {
     policy(i)?;
-    length(i.room, i.n)
+    row_words(i.room, i.n)
 }
 
 /// "Faults of a text come after 1 to 5 and before 14 and 17" (DECISIONS, point 5).
 pub fn init(i: &init::Input) -> Checked {
     population(i.n)?;
     shards(i.d, i.total)?;
-    text(&i.text.0)?;
+    text(&i.text.0, 16_384)?;
     layout_text(i.n, i.d, i.total, &i.text.0)?;
     // "14 total shards no multiple of n (layout text)"
     refuse(14, !i.total.is_multiple_of(i.n))?;
-    length(i.room, i.n)
+    row_words(i.room, i.n)
 }
 
 pub fn gossip(i: &gossip::Input) -> Checked {
@@ -427,11 +439,11 @@ pub fn gossip(i: &gossip::Input) -> Checked {
     replica(i.n, i.own)?;
     replica(i.n, i.source)?;
     shards(i.d, i.w)?;
-    rows(i.w, &[i.available])?;
+    rows(i.w, &i.available)?;
     rows(i.w, &i.rows)?;
     mask(i.n, i.alive)?;
-    length(i.rows.len(), i.n)?;
-    length(i.room, i.n)
+    row_words(i.rows.len(), i.n)?;
+    row_words(i.room, i.n)
 }
 
 pub fn open(i: &tally::Opening) -> Checked {
@@ -449,8 +461,8 @@ pub fn reply(t: &tally::State, r: &tally::Reply) -> Checked {
     shards(o.d, o.w)?;
     quorum(o.n, o.quorum)?;
     mask(o.n, t.heard)?;
-    rows(o.w, &t.rows[..o.n as usize])?;
-    rows(o.w, &[r.row])?;
+    rows(o.w, t.rows[..o.n as usize].as_flattened())?;
+    rows(o.w, &r.row)?;
     fault_list(o.n, &r.faults)?;
     // "23 a reply whose ballot or value id differs from the tally's"
     let told = (r.ballot, r.high, r.low);

@@ -2,7 +2,7 @@
 
 use std::fmt::{self, Debug, Formatter};
 
-use oracle::api::Fail;
+use oracle::api::{self, Fail};
 
 use crate::document::Checked;
 use crate::line::Line;
@@ -23,7 +23,7 @@ pub struct Told {
     pub answer: Answer,
     /// What this comes to; several if the input is a sequence.
     pub outcomes: Vec<Outcome>,
-    /// The port's answer, where docs/DIFFERENCES.md says that it is another one.
+    /// The port's answer, where docs/DIFFERENCES.md says that it is another one, overflows apart.
     pub listed: Option<Listed>,
 }
 
@@ -83,6 +83,15 @@ impl Answer {
         }
     }
 
+    /// The port's answer, from the fields of a C struct, which are compared behind a refusal too.
+    #[must_use]
+    pub fn given<const N: usize>(refusal: u64, fields: [u64; N], lent: Vec<u64>) -> Answer {
+        Answer {
+            refusal,
+            ..Answer::lent(fields.to_vec(), lent)
+        }
+    }
+
     /// The port's answer, from a call of the bindings.
     #[cfg(feature = "port")]
     pub fn of<T, const N: usize>(
@@ -137,8 +146,18 @@ pub trait Entry {
     fn small(each: &mut dyn FnMut(Self::Input));
     fn random(rng: &mut Rng) -> Self::Input;
 
+    /// The width, where the entry has rows or data shards; of an accepted input at most 255.
+    fn width(_: &Self::Input) -> Option<u64> {
+        None
+    }
+
     /// The document's refusal.
     fn refusal(input: &Self::Input) -> Checked;
+    /// If the Rust's bytes overflow on an accepted input: what its release build answers, and the
+    /// answer in whole numbers, which is the port's. They may be the same.
+    fn overflow(_: &Self::Input) -> Option<Listed> {
+        None
+    }
     fn rust(input: &Self::Input) -> Asked;
     #[cfg(feature = "port")]
     fn port(input: &Self::Input) -> Answer;
@@ -190,16 +209,37 @@ pub fn expected<E: Entry>(input: &E::Input) -> Result<(Answer, Vec<Outcome>), St
         let outcome = Outcome::Refused(number, side);
         return Ok((refused::<E>(input, number), vec![outcome]));
     }
+    let overflow = E::overflow(input);
     match rust {
         None => Err("document 01 accepts it, and the Rust cannot be asked".into()),
+        Some(asked) if api::debug_build() && overflow.is_some() => panicked(asked, overflow),
         Some(Err(fail)) => Err(format!(
             "document 01 accepts it, and the Rust fails: {fail:?}"
         )),
-        Some(Ok(told)) => match told.listed {
-            None => Ok((told.answer, told.outcomes)),
-            Some(l) if l.rust == told.answer => Ok((l.port, vec![Outcome::Listed(l.name)])),
-            Some(l) => Err(format!("{}: the Rust answers {:?}", l.name, told.answer)),
-        },
+        Some(Ok(told)) => {
+            let differs = |l: &Listed| l.rust != l.port;
+            match told.listed.or(overflow.filter(differs)) {
+                None => Ok((told.answer, told.outcomes)),
+                Some(l) if l.rust == told.answer => Ok((l.port, vec![Outcome::Listed(l.name)])),
+                Some(l) => Err(format!("{}: the Rust answers {:?}", l.name, told.answer)),
+            }
+        }
+    }
+}
+
+/// The port's answer where the Rust's bytes overflow: a debug build of the Rust panics there.
+fn panicked(
+    asked: Result<Told, Fail>,
+    overflow: Option<Listed>,
+) -> Result<(Answer, Vec<Outcome>), String> {
+    match (asked, overflow) {
+        (Err(Fail::Panic(why)), Some(l)) if why.ends_with("with overflow") => {
+            Ok((l.port, vec![Outcome::Listed(l.name)]))
+        }
+        (asked, _) => Err(format!(
+            "bytes overflow, and the Rust's debug build gives {:?}",
+            asked.map(|told| told.answer)
+        )),
     }
 }
 

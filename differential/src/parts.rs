@@ -3,8 +3,18 @@
 use std::fmt::{Debug, Formatter};
 
 use oracle::api;
+pub use oracle::api::Row;
 
 use crate::rng::Rng;
+
+/// The most shards of a layout.
+pub const WIDEST: u64 = 255;
+
+/// Widths beside which a row's words end, and the widest.
+pub const EDGES: [u64; 9] = [64, 65, 127, 128, 129, 191, 192, 254, WIDEST];
+
+/// Where the shards of a small space begin: at the first one, or at the last of a row's word.
+pub const STARTS: [u64; 4] = [0, 63, 127, 191];
 
 /// A width: exact, or the most.
 #[derive(Debug, Clone, Copy)]
@@ -37,16 +47,6 @@ impl Total {
         } else {
             api::Total::Exactly(width)
         })
-    }
-
-    #[cfg(feature = "port")]
-    #[must_use]
-    pub fn port(self) -> callboard::TotalShards {
-        if self.ceiling {
-            callboard::TotalShards::AtMost(self.width)
-        } else {
-            callboard::TotalShards::Exactly(self.width)
-        }
     }
 
     /// As the oracle's line protocol has it.
@@ -241,22 +241,94 @@ pub fn has(mask: u64, bit: u64) -> bool {
     mask >> bit & 1 == 1
 }
 
+/// The row of all shards below `k`.
+#[must_use]
+pub fn row_below(k: u64) -> Row {
+    [0, 64, 128, 192].map(|from| low(k.saturating_sub(from)))
+}
+
+/// The row of these shards.
+pub fn row_of(shards: impl IntoIterator<Item = u64>) -> Row {
+    let mut row = [0; 4];
+    for shard in shards {
+        row[shard as usize / 64] |= 1 << (shard % 64);
+    }
+    row
+}
+
+/// The row of the shards `from` + i, for the bits i.
+#[must_use]
+pub fn row_at(from: u64, bits: u64) -> Row {
+    row_of((0..64).filter(|&i| has(bits, i)).map(|i| from + i))
+}
+
+/// What two rows have in common.
+#[must_use]
+pub fn common(a: Row, b: Row) -> Row {
+    std::array::from_fn(|i| a[i] & b[i])
+}
+
+#[must_use]
+pub fn union(a: Row, b: Row) -> Row {
+    std::array::from_fn(|i| a[i] | b[i])
+}
+
+#[must_use]
+pub fn shard_count(row: &Row) -> u64 {
+    row.iter().map(|word| u64::from(word.count_ones())).sum()
+}
+
+/// The shards of a row, rising.
+pub fn shards_of(row: &Row) -> impl Iterator<Item = u64> {
+    let row = *row;
+    (0..256).filter(move |&shard| has(row[shard as usize / 64], shard % 64))
+}
+
+/// A table of each length up to `most` words with every shard below `w`, and beside it the table
+/// whose last word also has the first shard from `w` on that it can name.
+#[must_use]
+pub fn tables(w: u64, most: usize) -> Vec<Vec<u64>> {
+    let below = row_below(w);
+    let full: Vec<u64> = below.into_iter().cycle().take(most).collect();
+    let spoiled = |len: usize| {
+        let (last, rest) = full[..len].split_last()?;
+        let first_above = last.checked_add(1)?;
+        Some([rest, &[last | first_above]].concat())
+    };
+    let both = |len| [Some(full[..len].to_vec()), spoiled(len)];
+    (0..=most).flat_map(both).flatten().collect()
+}
+
+/// Whether no word of a table has a shard at or above `w`, the last row being whole or not.
+#[must_use]
+pub fn rows_below(words: &[u64], w: u64) -> bool {
+    let below = row_below(w);
+    let mut each = words.iter().zip(below.iter().cycle());
+    each.all(|(word, below)| word & !below == 0)
+}
+
+/// The rows of a table, without words that make no whole row.
+#[must_use]
+pub fn rows_of(words: &[u64]) -> &[Row] {
+    words.as_chunks().0
+}
+
 /// Lent words before a call, by the rule of the stored answers.
 #[must_use]
 pub fn junk(room: usize) -> Vec<u64> {
     (0..room as u64).map(|i| 0xab_ad1d_ea00 + i).collect()
 }
 
-/// Rows of the Rust's as words; within the port's limits no shard is above 63.
+/// The words of a table whose rows have these shards from `from` on.
 #[must_use]
-pub fn row_words(rows: &[api::Row]) -> Vec<u64> {
-    rows.iter().map(|row| row[0]).collect()
+pub fn table_at(from: u64, rows: &[u64]) -> Vec<u64> {
+    rows.iter().flat_map(|&bits| row_at(from, bits)).collect()
 }
 
-/// A row of the Rust's.
+/// How many words n rows have.
 #[must_use]
-pub fn wide(row: u64) -> api::Row {
-    [row, 0, 0, 0]
+pub fn row_words(n: u64) -> usize {
+    n.saturating_mul(4) as usize
 }
 
 /// A list of the oracle's line protocol.
@@ -274,6 +346,17 @@ pub fn hex(words: &[u64]) -> String {
     list(words, |w| format!("{w:x}"))
 }
 
+/// A row of the oracle's line protocol.
+#[must_use]
+pub fn hex_row(row: &Row) -> String {
+    let [a, b, c, d] = row;
+    let digits = format!("{d:016x}{c:016x}{b:016x}{a:016x}");
+    match digits.trim_start_matches('0') {
+        "" => "0".into(),
+        digits => digits.into(),
+    }
+}
+
 /// A population, mostly small.
 pub fn population(rng: &mut Rng) -> u64 {
     match rng.below(10) {
@@ -283,19 +366,26 @@ pub fn population(rng: &mut Rng) -> u64 {
     }
 }
 
-/// Data shards and a width, mostly small.
+/// Data shards and a width: small ones, ones at an edge, any.
 pub fn shards(rng: &mut Rng) -> (u64, u64) {
     let d = match rng.below(10) {
-        0..=5 => rng.within(1..=6),
-        6..=8 => rng.within(1..=16),
-        _ => rng.within(1..=64),
+        0..=3 => rng.within(1..=6),
+        4 | 5 => rng.within(1..=16),
+        6 => rng.within(1..=64),
+        7 => rng.pick(&EDGES),
+        _ => rng.within(1..=WIDEST),
     };
-    let w = match rng.below(8) {
+    (d, width(rng, d))
+}
+
+/// A width for d data shards: mostly little more than d, or one at an edge.
+pub fn width(rng: &mut Rng, d: u64) -> u64 {
+    match rng.below(8) {
         0 => d,
-        1 => 64,
-        _ => (d + rng.below(d + 2)).min(64),
-    };
-    (d, w)
+        1 => WIDEST,
+        2 | 3 => rng.pick(&EDGES).max(d),
+        _ => (d + rng.below(d + 2)).min(WIDEST),
+    }
 }
 
 pub fn total(rng: &mut Rng, width: u64) -> Total {
@@ -314,6 +404,30 @@ pub fn set(rng: &mut Rng, k: u64) -> u64 {
         2..=4 => any & rng.word(),
         _ => any,
     }
+}
+
+/// A row below `w`: any, sparse, a run, empty or full.
+pub fn row(rng: &mut Rng, w: u64) -> Row {
+    let any = [(); 4].map(|()| rng.word());
+    let within = match rng.below(8) {
+        0 => [0; 4],
+        1 => row_below(w),
+        2 => run(rng, w),
+        3 | 4 => any.map(|word| word & rng.word()),
+        _ => any,
+    };
+    common(within, row_below(w))
+}
+
+/// The shards from one to another.
+fn run(rng: &mut Rng, w: u64) -> Row {
+    let (from, to) = (row_below(rng.below(w + 1)), row_below(rng.below(w + 1)));
+    common(to, from.map(|word| !word))
+}
+
+/// The words of a table of n rows.
+pub fn rows(rng: &mut Rng, n: u64, w: u64) -> Vec<u64> {
+    (0..n).flat_map(|_| row(rng, w)).collect()
 }
 
 /// A set of replicas that leaves one out.
@@ -363,23 +477,55 @@ pub fn damage_table<T: Clone>(rng: &mut Rng, table: &mut Vec<T>, wrong: T) {
     }
 }
 
-/// A table of rows of another length, with a shard at or above the width, or with both.
-pub fn damage_rows(rng: &mut Rng, rows: &mut Vec<u64>, w: u64) {
-    let wrong = above(rng, w);
-    match rng.below(3) {
-        0 => damage_table(rng, rows, 0),
-        1 => damage_table(rng, rows, wrong),
-        _ if rows.is_empty() => rows.push(wrong),
-        _ => {
-            let at = rng.index(rows.len());
-            rows[at] = wrong;
-        }
+/// A table of rows with words more or less, with a shard at or above the width, or with both.
+pub fn damage_rows(rng: &mut Rng, words: &mut Vec<u64>, w: u64) {
+    let kind = rng.below(3);
+    if kind != 0 {
+        resize(rng, words, w);
+    }
+    if kind != 1 {
+        spoil(rng, words, w);
     }
 }
 
-/// A room beside n.
+/// Words more or less; those more have no shard at or above the width.
+fn resize(rng: &mut Rng, words: &mut Vec<u64>, w: u64) {
+    let some = rng.within(1..=5) as usize;
+    let len = match rng.below(5) {
+        0 => 0,
+        1 | 2 => words.len().saturating_sub(some),
+        3 => words.len() + some,
+        _ => words.len() + 16,
+    };
+    let (below, filled) = (row_below(w), rng.pick(&[0, u64::MAX]));
+    words.truncate(len);
+    for at in words.len()..len {
+        words.push(below[at % 4] & filled);
+    }
+}
+
+/// A shard at or above the width in some row, or in a row more that may not be whole.
+fn spoil(rng: &mut Rng, words: &mut Vec<u64>, w: u64) {
+    let shard = rng.within(w.min(255)..=255);
+    let at = 4 * rng.index(words.len() / 4 + 1) + shard as usize / 64;
+    if words.len() <= at {
+        words.resize(at + 1, 0);
+    }
+    words[at] |= 1 << (shard % 64);
+}
+
+/// A row with a shard at or above the width.
+pub fn row_above(rng: &mut Rng, w: u64) -> Row {
+    let shard = rng.within(w.min(255)..=255);
+    union(row(rng, w.min(255)), row_of([shard]))
+}
+
+/// A room for other than n rows, or of words that make no whole rows.
 pub fn wrong_room(rng: &mut Rng, n: u64) -> usize {
-    rng.pick(&[0, n.saturating_sub(1), n + 1, 16, 40]).min(64) as usize
+    let right = 4 * n.min(32);
+    let less = right.saturating_sub(rng.within(1..=4));
+    let more = right + rng.within(1..=4);
+    rng.pick(&[0, n.min(32), less, more, 64, 100]) as usize
 }
 
 /// A word with a bit at or above `k`.

@@ -1,5 +1,5 @@
-//! What the safe wrappers cannot express: a number of floats that makes no whole models, and flags
-//! other than 0 and 1.
+//! What the inputs of the entries cannot express: a number of floats that makes no whole models, and
+//! flags other than 0 and 1.
 #![cfg(feature = "port")]
 
 use callboard::raw;
@@ -8,8 +8,13 @@ use callboard::raw;
 const FAULTS: [u64; 3] = [1, 2, 4];
 const FLOATS: [f64; 100] = [1.0; 100];
 
-fn plan(floats: usize, ceiling: u64) -> (raw::Plan, [u64; 3]) {
-    let mut rows = [9; 3];
+/// Three rows of four words.
+type Rows = [[u64; 4]; 3];
+
+const UNWRITTEN: Rows = [[9; 4]; 3];
+
+fn plan(floats: usize, ceiling: u64) -> (raw::Plan, Rows) {
+    let mut rows = UNWRITTEN;
     // SAFETY: each slice is as long as it is said to be.
     let plan = unsafe {
         raw::callboard_pick_assignment(
@@ -28,15 +33,16 @@ fn plan(floats: usize, ceiling: u64) -> (raw::Plan, [u64; 3]) {
             3,
             FAULTS.as_ptr(),
             3,
-            rows.as_mut_ptr(),
-            3,
+            rows.as_flattened_mut().as_mut_ptr(),
+            12,
         )
     };
     (plan, rows)
 }
 
-fn policy(floats: usize, adaptive: u64, balanced: u64) -> (raw::Choice, [u64; 3]) {
-    let (init, table, mut rows) = ([1; 3], [2, 2, 2, 3, 3, 3], [9; 3]);
+fn policy(floats: usize, adaptive: u64, balanced: u64) -> (raw::Choice, Rows) {
+    let shards = |bits| [[bits, 0, 0, 0]; 3];
+    let (init, table, mut rows) = (shards(1), [shards(2), shards(3)], UNWRITTEN);
     // SAFETY: each slice is as long as it is said to be.
     let choice = unsafe {
         raw::callboard_policy_rows(
@@ -54,12 +60,12 @@ fn policy(floats: usize, adaptive: u64, balanced: u64) -> (raw::Choice, [u64; 3]
             [0; 3].as_ptr(),
             3,
             7,
-            init.as_ptr(),
-            3,
-            table.as_ptr(),
-            6,
-            rows.as_mut_ptr(),
-            3,
+            init.as_flattened().as_ptr(),
+            12,
+            table.as_flattened().as_flattened().as_ptr(),
+            24,
+            rows.as_flattened_mut().as_mut_ptr(),
+            12,
         )
     };
     (choice, rows)
@@ -70,13 +76,17 @@ fn models_are_whole() {
     for floats in (0..=FLOATS.len()).filter(|&k| k != 12) {
         let (plan, rows) = plan(floats, 1);
         let fields = (plan.refusal, plan.found, plan.width, plan.time.to_bits());
-        assert_eq!((fields, rows), ((17, 0, 0, 0), [9; 3]), "{floats} floats");
+        assert_eq!(
+            (fields, rows),
+            ((17, 0, 0, 0), UNWRITTEN),
+            "{floats} floats"
+        );
     }
     assert_eq!(plan(12, 1).0.refusal, 0);
     for floats in (0..=FLOATS.len()).filter(|&k| k != 9) {
         let (choice, rows) = policy(floats, 1, 1);
         let fields = (choice.refusal, choice.from_table, choice.count);
-        assert_eq!((fields, rows), ((17, 0, 0), [9; 3]), "{floats} floats");
+        assert_eq!((fields, rows), ((17, 0, 0), UNWRITTEN), "{floats} floats");
     }
     assert_eq!(policy(9, 1, 1).0.refusal, 0);
 }

@@ -81,7 +81,8 @@ impl Case {
         let profile = api::parse_profile(n, &random.profile(n)).unwrap();
         let masks = api::tolerance(n, f, &profile).ok()?;
         let d = 1 + random.byte_below(8);
-        let w = d + random.byte_below(9);
+        let more = if random.below(4) == 0 { 255 - d } else { 9 };
+        let w = d + random.byte_below(more);
         Some(Case {
             me: random.byte_below(n),
             n,

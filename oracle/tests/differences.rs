@@ -44,8 +44,29 @@ fn first_reply_of_another_width() {
 #[test]
 fn floor_in_a_byte() {
     api::quiet();
-    let floor = api::min_shards_per_replica(64, 1, 2, 0);
+    let floor = api::min_shards_per_replica(128, 1, 0, 0);
     assert_eq!(answer(floor), release(0));
+}
+
+/// The floor of 128 shards would pick the table's row.
+#[test]
+fn policy_by_a_floor_in_a_byte() {
+    api::quiet();
+    let (init, full) = ([row(0)], [u64::MAX, u64::MAX, 0, 0]);
+    let (table, models) = ([(128, vec![full])], []);
+    let rows = api::policy(
+        false, true, 128, &init, &table, 128, 1, 0, 0, &models, 0.0, None, 1, 0,
+    );
+    assert_eq!(answer(rows), release(init.to_vec()));
+}
+
+/// The second run begins at 127 and ends before 256.
+#[test]
+fn run_in_a_byte() {
+    api::quiet();
+    let rows = api::parse_init_assignment(2, 254, 129, "129");
+    let first = [u64::MAX, u64::MAX, 1, 0];
+    assert_eq!(answer(rows), release(vec![first, row(0)]));
 }
 
 /// On the processors that keep the sign of a NaN, as x86-64 does.
@@ -82,6 +103,13 @@ fn decimal_beyond_the_digit_rule() {
 #[test]
 fn text_beyond_ascii() {
     assert_eq!(profile(1, "\u{a0}"), profile(1, ""));
+}
+
+#[test]
+fn long_layout_text() {
+    let text = format!("{:0>16385}", 1);
+    let rows = api::parse_init_assignment(1, 1, 1, &text);
+    assert_eq!(rows, Ok(vec![row(1)]));
 }
 
 #[test]

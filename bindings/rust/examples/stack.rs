@@ -12,11 +12,17 @@ use std::process::Command;
 use std::ptr::null_mut;
 use std::slice::from_raw_parts_mut;
 
-use callboard::{Choice, PolicyInput, Profile, Refusal, Tally, TotalShards};
+use callboard::{Choice, PolicyInput, Profile, Refusal, Row, Tally, TotalShards};
 
 const ROOM: usize = 1 << 20;
 const PAGE: usize = 4096;
 const PAINT: u8 = 0xa5;
+
+/// The widest layout.
+const WIDTH: u64 = 255;
+/// A row without a shard, and one of shard 0.
+const EMPTY: Row = [0; 4];
+const FIRST: Row = [1, 0, 0, 0];
 
 /// `pthread_attr_t` of glibc on x86-64.
 #[repr(C, align(8))]
@@ -159,20 +165,20 @@ fn texts(empty: usize) {
     print("unreliability n 16", empty, || {
         black_box(callboard::unreliability(16, 3, black_box(&given), 0.5).unwrap());
     });
-    let mut rows = [0; 16];
+    let mut rows = [EMPTY; 16];
     print("parse_init_assignment n 16", empty, || {
-        callboard::parse_init_assignment(16, 4, 64, black_box(b"0:1,2,3/7:4,5"), &mut rows)
+        callboard::parse_init_assignment(16, 4, 240, black_box(b"0:1,2,3/7:4,5"), &mut rows)
             .unwrap();
     });
 }
 
 fn layouts(empty: usize, n: u64) {
     let (d, f) = (n, (n as u32 - 1) / 3);
-    let total = TotalShards::AtMost(64);
+    let total = TotalShards::AtMost(WIDTH);
     let faults = sets(n, f);
     let everyone = (1 << n) - 1;
     let loads = vec![d; n as usize];
-    let mut rows = vec![0; n as usize];
+    let mut rows = vec![EMPTY; n as usize];
     print(&format!("layout_rows n {n}"), empty, || {
         callboard::layout_rows(n, d, total, &loads, &mut rows).unwrap();
     });
@@ -184,7 +190,7 @@ fn layouts(empty: usize, n: u64) {
     });
     let held = rows.clone();
     print(&format!("covers n {n}"), empty, || {
-        black_box(callboard::covers(n, d, 64, everyone, &held, &faults).unwrap());
+        black_box(callboard::covers(n, d, WIDTH, everyone, &held, &faults).unwrap());
     });
     print(&format!("survived_by n {n}"), empty, || {
         black_box(callboard::survived_by(n, everyone, &faults).unwrap());
@@ -211,11 +217,21 @@ fn layouts(empty: usize, n: u64) {
         );
         assert!(plan.unwrap().is_some());
     });
-    let mut left_out = vec![0; n as usize];
+    let mut left_out = vec![EMPTY; n as usize];
     print(&format!("gossip_targets_excl n {n}"), empty, || {
         black_box(
-            callboard::gossip_targets_excl(n, 0, 1, d, 64, 1, &held, everyone, &mut left_out)
-                .unwrap(),
+            callboard::gossip_targets_excl(
+                n,
+                0,
+                1,
+                d,
+                WIDTH,
+                FIRST,
+                &held,
+                everyone,
+                &mut left_out,
+            )
+            .unwrap(),
         );
     });
 }
@@ -224,15 +240,15 @@ fn policy(empty: usize, n: u64) {
     let majority = n / 2 + 1;
     let d = majority;
     let models = vec![[1.0, 1.0, 0.5]; n as usize];
-    let (inflight, initial) = (vec![0; n as usize], vec![1; n as usize]);
-    let table = vec![1; (n * d) as usize];
-    let mut rows = vec![0; n as usize];
+    let (inflight, initial) = (vec![0; n as usize], vec![FIRST; n as usize]);
+    let table = vec![FIRST; (n * d) as usize];
+    let mut rows = vec![EMPTY; n as usize];
     let input = || PolicyInput {
         n,
         f: 1,
         own: 0,
         d,
-        w: 64,
+        w: WIDTH,
         majority,
         size: 1 << 20,
         adaptive: true,
@@ -258,14 +274,14 @@ fn policy(empty: usize, n: u64) {
 fn replies(empty: usize, n: u64) {
     let faults = sets(n, 1);
     print(&format!("tally_open n {n}"), empty, || {
-        black_box(Tally::open(n, 2, 2, 64, 1, 0, 42).unwrap());
+        black_box(Tally::open(n, 2, 2, WIDTH, 1, 0, 42).unwrap());
     });
-    let mut tally = Tally::open(n, 2, 2, 64, 1, 0, 42).unwrap();
+    let mut tally = Tally::open(n, 2, 2, WIDTH, 1, 0, 42).unwrap();
     print(&format!("accept_reply n {n}"), empty, || {
         for source in 0..n {
             black_box(
                 tally
-                    .accept_reply(source, 1, 0, 42, 1 << source, &faults)
+                    .accept_reply(source, 1, 0, 42, [1 << source, 0, 0, 0], &faults)
                     .unwrap(),
             );
         }

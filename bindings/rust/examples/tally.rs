@@ -8,8 +8,12 @@ fn main() -> Result<(), Refusal> {
     let mut tally = Tally::open(3, 2, 2, 3, 1, 0, 42)?;
 
     // The second row is a copy of the first.
-    for (source, row) in [(0, 1 << 0), (1, 1 << 0), (2, 1 << 1), (1, 1 << 2)] {
-        println!("{:?}", tally.accept_reply(source, 1, 0, 42, row, &faults[..sets])?);
+    for (source, shard) in [(0, 0), (1, 0), (2, 1), (1, 2)] {
+        let row = [1 << shard, 0, 0, 0];
+        println!(
+            "{:?}",
+            tally.accept_reply(source, 1, 0, 42, row, &faults[..sets])?
+        );
     }
     Ok(())
 }

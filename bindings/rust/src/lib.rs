@@ -3,7 +3,8 @@
 //! does and which refusals it has, in which order.
 //!
 //! n is the number of replicas, d the number of data shards, w the width (the number of shards).
-//! A mask of replicas has bit s for replica s; a row is a set of shards, with bit i for shard i.
+//! A mask of replicas has bit s for replica s; a row is a set of shards, with bit i % 64 of word
+//! i / 64 for shard i.
 
 pub mod raw;
 
@@ -11,6 +12,9 @@ use std::error::Error;
 use std::fmt;
 
 pub use raw::{Profile, Tally};
+
+/// A set of shards: shard i is bit i % 64 of word i / 64.
+pub type Row = [u64; 4];
 
 /// The number of the first case that refuses the input.
 #[derive(Debug, Clone, Copy, PartialEq, Eq)]
@@ -23,9 +27,9 @@ impl Refusal {
             1 => "the population is not 1 to 16",
             2 => "the fault tolerance is not below the population",
             3 => "a replica's number is not below the population",
-            4 => "the data shards are not 1 to 64, or the width is not d to 64",
+            4 => "the data shards are not 1 to 255, or the width is not d to 255",
             5 => "the quorum or majority is not 1 to the population",
-            6 => "the text is longer than 4,096 bytes or has a byte above 127",
+            6 => "the text is longer than 4,096 bytes (a layout's: 16,384) or has a byte above 127",
             7 => "a numeral is malformed, or a whole number is above 255",
             8 => "a decimal has too many digits or too large or small a power of ten",
             9 => "a replica or shard number in the text or profile is out of range",
@@ -118,9 +122,10 @@ pub fn covers(
     d: u64,
     w: u64,
     heard: u64,
-    rows: &[u64],
+    rows: &[Row],
     faults: &[u64],
 ) -> Result<bool, Refusal> {
+    let words = rows.as_flattened();
     // SAFETY: the tables are lent for the call, with their lengths.
     let answer = unsafe {
         raw::callboard_covers(
@@ -128,8 +133,8 @@ pub fn covers(
             d,
             w,
             heard,
-            rows.as_ptr(),
-            rows.len(),
+            words.as_ptr(),
+            words.len(),
             faults.as_ptr(),
             faults.len(),
         )
@@ -150,8 +155,9 @@ pub fn layout_rows(
     d: u64,
     total: TotalShards,
     loads: &[u64],
-    rows: &mut [u64],
+    rows: &mut [Row],
 ) -> Result<u64, Refusal> {
+    let words = rows.as_flattened_mut();
     // SAFETY: the tables are lent for the call, with their lengths, `rows` alone.
     value(unsafe {
         raw::callboard_layout_rows(
@@ -161,8 +167,8 @@ pub fn layout_rows(
             total.width(),
             loads.as_ptr(),
             loads.len(),
-            rows.as_mut_ptr(),
-            rows.len(),
+            words.as_mut_ptr(),
+            words.len(),
         )
     })
 }
@@ -184,8 +190,9 @@ pub fn layout_commits(
     answered: u64,
     loads: &[u64],
     faults: &[u64],
-    rows: &mut [u64],
+    rows: &mut [Row],
 ) -> Result<Layout, Refusal> {
+    let words = rows.as_flattened_mut();
     // SAFETY: the tables are lent for the call, with their lengths, `rows` alone.
     let layout = unsafe {
         raw::callboard_layout_commits(
@@ -199,8 +206,8 @@ pub fn layout_commits(
             loads.len(),
             faults.as_ptr(),
             faults.len(),
-            rows.as_mut_ptr(),
-            rows.len(),
+            words.as_mut_ptr(),
+            words.len(),
         )
     };
     check(layout.refusal)?;
@@ -232,9 +239,10 @@ pub fn pick_assignment(
     models: &[[f64; 4]],
     inflight: &[u64],
     faults: &[u64],
-    rows: &mut [u64],
+    rows: &mut [Row],
 ) -> Result<Option<Plan>, Refusal> {
     let floats = models.as_flattened();
+    let words = rows.as_flattened_mut();
     // SAFETY: the tables are lent for the call, with their lengths, `rows` alone.
     let plan = unsafe {
         raw::callboard_pick_assignment(
@@ -253,8 +261,8 @@ pub fn pick_assignment(
             inflight.len(),
             faults.as_ptr(),
             faults.len(),
-            rows.as_mut_ptr(),
-            rows.len(),
+            words.as_mut_ptr(),
+            words.len(),
         )
     };
     check(plan.refusal)?;
@@ -265,7 +273,8 @@ pub fn pick_assignment(
 }
 
 /// Writes full copies for every replica; the width.
-pub fn full_copies(n: u64, d: u64, total: TotalShards, rows: &mut [u64]) -> Result<u64, Refusal> {
+pub fn full_copies(n: u64, d: u64, total: TotalShards, rows: &mut [Row]) -> Result<u64, Refusal> {
+    let words = rows.as_flattened_mut();
     // SAFETY: the rows are lent alone for the call, with their length.
     value(unsafe {
         raw::callboard_full_copies(
@@ -273,8 +282,8 @@ pub fn full_copies(n: u64, d: u64, total: TotalShards, rows: &mut [u64]) -> Resu
             d,
             total.ceiling(),
             total.width(),
-            rows.as_mut_ptr(),
-            rows.len(),
+            words.as_mut_ptr(),
+            words.len(),
         )
     })
 }
@@ -317,8 +326,8 @@ pub struct PolicyInput<'a> {
     pub models: &'a [[f64; 3]],
     pub inflight: &'a [u64],
     pub alive: u64,
-    pub init: &'a [u64],
-    pub table: &'a [u64],
+    pub init: &'a [Row],
+    pub table: &'a [Row],
 }
 
 fn choice(choice: raw::Choice) -> Result<Choice, Refusal> {
@@ -332,6 +341,7 @@ fn choice(choice: raw::Choice) -> Result<Choice, Refusal> {
 /// The balanced policy's choice.
 pub fn pick_assignment_policy(input: PolicyInput) -> Result<Choice, Refusal> {
     let floats = input.models.as_flattened();
+    let (init, table) = (input.init.as_flattened(), input.table.as_flattened());
     // SAFETY: the tables are lent for the call, with their lengths.
     choice(unsafe {
         raw::callboard_pick_assignment_policy(
@@ -349,17 +359,19 @@ pub fn pick_assignment_policy(input: PolicyInput) -> Result<Choice, Refusal> {
             input.inflight.as_ptr(),
             input.inflight.len(),
             input.alive,
-            input.init.as_ptr(),
-            input.init.len(),
-            input.table.as_ptr(),
-            input.table.len(),
+            init.as_ptr(),
+            init.len(),
+            table.as_ptr(),
+            table.len(),
         )
     })
 }
 
 /// The balanced policy's choice, its rows written.
-pub fn policy_rows(input: PolicyInput, rows: &mut [u64]) -> Result<Choice, Refusal> {
+pub fn policy_rows(input: PolicyInput, rows: &mut [Row]) -> Result<Choice, Refusal> {
     let floats = input.models.as_flattened();
+    let (init, table) = (input.init.as_flattened(), input.table.as_flattened());
+    let words = rows.as_flattened_mut();
     // SAFETY: the tables are lent for the call, with their lengths, `rows` alone.
     choice(unsafe {
         raw::callboard_policy_rows(
@@ -377,12 +389,12 @@ pub fn policy_rows(input: PolicyInput, rows: &mut [u64]) -> Result<Choice, Refus
             input.inflight.as_ptr(),
             input.inflight.len(),
             input.alive,
-            input.init.as_ptr(),
-            input.init.len(),
-            input.table.as_ptr(),
-            input.table.len(),
-            rows.as_mut_ptr(),
-            rows.len(),
+            init.as_ptr(),
+            init.len(),
+            table.as_ptr(),
+            table.len(),
+            words.as_mut_ptr(),
+            words.len(),
         )
     })
 }
@@ -393,8 +405,9 @@ pub fn parse_init_assignment(
     d: u64,
     total: u64,
     text: &[u8],
-    rows: &mut [u64],
+    rows: &mut [Row],
 ) -> Result<(), Refusal> {
+    let words = rows.as_flattened_mut();
     // SAFETY: text and rows are lent for the call, with their lengths, `rows` alone.
     let answer = unsafe {
         raw::callboard_parse_init_assignment(
@@ -403,8 +416,8 @@ pub fn parse_init_assignment(
             total,
             text.as_ptr(),
             text.len(),
-            rows.as_mut_ptr(),
-            rows.len(),
+            words.as_mut_ptr(),
+            words.len(),
         )
     };
     check(answer.refusal)
@@ -419,11 +432,13 @@ pub fn gossip_targets_excl(
     source: u64,
     d: u64,
     w: u64,
-    available: u64,
-    rows: &[u64],
+    available: Row,
+    rows: &[Row],
     alive: u64,
-    exclusions: &mut [u64],
+    exclusions: &mut [Row],
 ) -> Result<u64, Refusal> {
+    let words = rows.as_flattened();
+    let left_out = exclusions.as_flattened_mut();
     // SAFETY: the tables are lent for the call, with their lengths, `exclusions` alone.
     value(unsafe {
         raw::callboard_gossip_targets_excl(
@@ -432,12 +447,12 @@ pub fn gossip_targets_excl(
             source,
             d,
             w,
-            available,
-            rows.as_ptr(),
-            rows.len(),
+            raw::Row { words: available },
+            words.as_ptr(),
+            words.len(),
             alive,
-            exclusions.as_mut_ptr(),
-            exclusions.len(),
+            left_out.as_mut_ptr(),
+            left_out.len(),
         )
     })
 }
@@ -474,7 +489,7 @@ impl Tally {
         ballot: u64,
         high: u64,
         low: u64,
-        row: u64,
+        row: Row,
         faults: &[u64],
     ) -> Result<Status, Refusal> {
         // SAFETY: tally and list are lent for the call, the list with its length.
@@ -485,7 +500,7 @@ impl Tally {
                 ballot,
                 high,
                 low,
-                row,
+                raw::Row { words: row },
                 faults.as_ptr(),
                 faults.len(),
             )

@@ -1,6 +1,13 @@
 //! The declarations of include/callboard.h, in its order. The safe functions over them are in the
 //! crate's root; the header says what each does.
 
+/// The shards of one row: shard i is bit i % 64 of word i / 64.
+#[repr(C)]
+#[derive(Debug, Clone, Copy, PartialEq, Eq)]
+pub struct Row {
+    pub words: [u64; 4],
+}
+
 #[repr(C)]
 #[derive(Debug, Clone, Copy, PartialEq, Eq)]
 pub struct Answer {
@@ -87,7 +94,7 @@ pub struct Tally {
     pub value_low: u64,
     pub heard: u64,
     pub committed: u64,
-    pub rows: [u64; 16],
+    pub rows: [[u64; 4]; 16],
 }
 
 #[repr(C)]
@@ -252,7 +259,7 @@ unsafe extern "C" {
         source: u64,
         d: u64,
         w: u64,
-        available: u64,
+        available: Row,
         rows: *const u64,
         rows_len: usize,
         alive: u64,
@@ -276,7 +283,7 @@ unsafe extern "C" {
         ballot: u64,
         high: u64,
         low: u64,
-        row: u64,
+        row: Row,
         faults: *const u64,
         faults_len: usize,
     ) -> Reply;

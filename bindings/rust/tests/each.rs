@@ -6,6 +6,27 @@ use callboard::*;
 /// A word that no answer has.
 const UNTOUCHED: u64 = 0xfeed_f00d_feed_f00d;
 
+/// A row that no answer has.
+const UNWRITTEN: Row = [UNTOUCHED; 4];
+
+/// The rows of these sets of shards below 64.
+const fn low<const N: usize>(sets: [u64; N]) -> [Row; N] {
+    let mut rows = [[0; 4]; N];
+    let mut s = 0;
+    while s < N {
+        rows[s][0] = sets[s];
+        s += 1;
+    }
+    rows
+}
+
+/// The row of one shard.
+fn one(shard: usize) -> Row {
+    let mut row = [0; 4];
+    row[shard / 64] = 1 << (shard % 64);
+    row
+}
+
 /// More bytes in flight than are allowed.
 const FAR: u64 = (1 << 40) + 1;
 
@@ -92,15 +113,27 @@ fn fault_lists_refused() {
 
 #[test]
 fn coverage() {
-    let covers = |w, heard, rows| covers(3, 2, w, heard, rows, &ANY_ONE);
-    assert_eq!(covers(3, 0b111, &[1, 2, 4]), Ok(true));
-    assert_eq!(covers(3, 0b111, &[1, 2, 1]), Ok(false));
-    assert_eq!(covers(3, 0b011, &[3, 3, 0]), Ok(true));
-    assert_eq!(covers(3, 0, &[3, 3, 0]), Ok(false));
-    assert_eq!(covers(64, 0b111, &[1, 2, 4]), Ok(true));
-    assert_eq!(covers(65, 0b111, &[1, 2, 4]), Err(Refusal(4)));
-    assert_eq!(covers(3, 0b111, &[1, 2, 8]), Err(Refusal(16)));
-    assert_eq!(covers(3, 0b111, &[1, 2]), Err(Refusal(17)));
+    let covers = |w, heard, rows: &[Row]| covers(3, 2, w, heard, rows, &ANY_ONE);
+    assert_eq!(covers(3, 0b111, &low([1, 2, 4])), Ok(true));
+    assert_eq!(covers(3, 0b111, &low([1, 2, 1])), Ok(false));
+    assert_eq!(covers(3, 0b011, &low([3, 3, 0])), Ok(true));
+    assert_eq!(covers(3, 0, &low([3, 3, 0])), Ok(false));
+    assert_eq!(covers(255, 0b111, &[one(63), one(64), one(254)]), Ok(true));
+    assert_eq!(
+        covers(255, 0b111, &[one(254), one(64), one(254)]),
+        Ok(false)
+    );
+    assert_eq!(covers(256, 0b111, &low([1, 2, 4])), Err(Refusal(4)));
+    assert_eq!(
+        covers(254, 0b111, &[one(63), one(64), one(254)]),
+        Err(Refusal(16))
+    );
+    assert_eq!(
+        covers(255, 0b111, &[one(63), one(64), one(255)]),
+        Err(Refusal(16))
+    );
+    assert_eq!(covers(3, 0b111, &low([1, 2, 8])), Err(Refusal(16)));
+    assert_eq!(covers(3, 0b111, &low([1, 2])), Err(Refusal(17)));
 }
 
 #[test]
@@ -114,21 +147,36 @@ fn survival() {
 #[test]
 fn layouts() {
     let loads = [4, 2, 2, 1];
-    let mut rows = [UNTOUCHED; 4];
+    let mut rows = [UNWRITTEN; 4];
     let width = layout_rows(4, 4, TotalShards::AtMost(10), &loads, &mut rows);
-    assert_eq!((width, rows), (Ok(5), [0b1111, 0b11, 0b1100, 0b10000]));
+    assert_eq!((width, rows), (Ok(5), low([0b1111, 0b11, 0b1100, 0b10000])));
     let width = layout_rows(4, 4, TotalShards::AtMost(4), &loads, &mut rows);
-    assert_eq!((width, rows), (Ok(4), [0b1111, 0b11, 0b1100, 0b1]));
+    assert_eq!((width, rows), (Ok(4), low([0b1111, 0b11, 0b1100, 0b1])));
     let width = layout_rows(4, 4, TotalShards::Exactly(6), &loads, &mut rows);
-    assert_eq!((width, rows), (Ok(6), [0b1111, 0b11, 0b1100, 0b10000]));
+    assert_eq!((width, rows), (Ok(6), low([0b1111, 0b11, 0b1100, 0b10000])));
+    // shards 0 to 99, 100 to 149, 150 to 199, and 200
+    let width = layout_rows(
+        4,
+        200,
+        TotalShards::AtMost(255),
+        &[100, 50, 50, 1],
+        &mut rows,
+    );
+    let run = |a, b| {
+        (a..b).fold([0; 4], |row: Row, i| {
+            [0, 1, 2, 3].map(|k| row[k] | one(i)[k])
+        })
+    };
+    let runs = [run(0, 100), run(100, 150), run(150, 200), run(200, 201)];
+    assert_eq!((width, rows), (Ok(201), runs));
 }
 
 #[test]
 fn layouts_refused() {
-    let mut rows = [UNTOUCHED; 4];
+    let mut rows = [UNWRITTEN; 4];
     let mut refused = |total, loads: &[u64]| layout_rows(4, 4, total, loads, &mut rows);
     assert_eq!(
-        refused(TotalShards::AtMost(65), &[4, 2, 2, 1]),
+        refused(TotalShards::AtMost(256), &[4, 2, 2, 1]),
         Err(Refusal(4))
     );
     assert_eq!(
@@ -139,12 +187,12 @@ fn layouts_refused() {
         refused(TotalShards::AtMost(10), &[4, 2, 2]),
         Err(Refusal(17))
     );
-    assert_eq!(rows, [UNTOUCHED; 4]);
+    assert_eq!(rows, [UNWRITTEN; 4]);
 }
 
 #[test]
 fn layouts_that_commit() {
-    let mut rows = [UNTOUCHED; 3];
+    let mut rows = [UNWRITTEN; 3];
     let mut commits = |quorum, answered| {
         let total = TotalShards::AtMost(3);
         let loads = [2, 1, 1];
@@ -152,11 +200,11 @@ fn layouts_that_commit() {
         (layout, rows)
     };
     let layout = |width, commits| Ok(Layout { width, commits });
-    assert_eq!(commits(4, 0b111), (Err(Refusal(5)), [UNTOUCHED; 3]));
-    assert_eq!(commits(2, 0b1111), (Err(Refusal(16)), [UNTOUCHED; 3]));
-    assert_eq!(commits(2, 0b111), (layout(2, true), [0b11, 0b1, 0b10]));
+    assert_eq!(commits(4, 0b111), (Err(Refusal(5)), [UNWRITTEN; 3]));
+    assert_eq!(commits(2, 0b1111), (Err(Refusal(16)), [UNWRITTEN; 3]));
+    assert_eq!(commits(2, 0b111), (layout(2, true), low([0b11, 0b1, 0b10])));
     // a replica that does not answer has load 0
-    assert_eq!(commits(2, 0b011), (layout(2, false), [0b11, 0b1, 0]));
+    assert_eq!(commits(2, 0b011), (layout(2, false), low([0b11, 0b1, 0])));
 }
 
 /// The site sheet's plan, with what varies in the tests.
@@ -199,7 +247,7 @@ const UNLIKE: PlanInput = PlanInput {
 };
 
 impl PlanInput {
-    fn pick(&self, rows: &mut [u64]) -> Result<Option<Plan>, Refusal> {
+    fn pick(&self, rows: &mut [Row]) -> Result<Option<Plan>, Refusal> {
         pick_assignment(
             3,
             self.own,
@@ -221,12 +269,12 @@ impl PlanInput {
 fn plans() {
     let plan = |time| Ok(Some(Plan { time, width: 2 }));
     for (input, answer, expected) in [
-        (PLAN, plan(2.0), [0b11, 0b1, 0b10]),
-        (NO_FAULT, plan(1.0), [0b11, 0, 0]),
-        (SILENT, Ok(None), [UNTOUCHED; 3]),
-        (UNLIKE, plan(172.0), [0b11, 0b1, 0b10]),
+        (PLAN, plan(2.0), low([0b11, 0b1, 0b10])),
+        (NO_FAULT, plan(1.0), low([0b11, 0, 0])),
+        (SILENT, Ok(None), [UNWRITTEN; 3]),
+        (UNLIKE, plan(172.0), low([0b11, 0b1, 0b10])),
     ] {
-        let mut rows = [UNTOUCHED; 3];
+        let mut rows = [UNWRITTEN; 3];
         assert_eq!(input.pick(&mut rows), answer);
         assert_eq!(rows, expected);
     }
@@ -241,25 +289,25 @@ fn plans_refused() {
         (16, |input| input.heard = 0b1111),
         (17, |input| input.faults = &[0b111]),
     ];
-    let mut rows = [UNTOUCHED; 3];
+    let mut rows = [UNWRITTEN; 3];
     for (number, change) in changes {
         let mut input = PLAN;
         change(&mut input);
         assert_eq!(input.pick(&mut rows), Err(Refusal(number)));
     }
     assert_eq!(PLAN.pick(&mut rows[..2]), Err(Refusal(17)));
-    assert_eq!(rows, [UNTOUCHED; 3]);
+    assert_eq!(rows, [UNWRITTEN; 3]);
 }
 
 #[test]
 fn copies() {
-    let mut rows = [UNTOUCHED; 3];
+    let mut rows = [UNWRITTEN; 3];
     let refused = full_copies(3, 2, TotalShards::AtMost(1), &mut rows);
-    assert_eq!((refused, rows), (Err(Refusal(4)), [UNTOUCHED; 3]));
+    assert_eq!((refused, rows), (Err(Refusal(4)), [UNWRITTEN; 3]));
     let width = full_copies(3, 2, TotalShards::AtMost(3), &mut rows);
-    assert_eq!((width, rows), (Ok(2), [0b11; 3]));
+    assert_eq!((width, rows), (Ok(2), low([0b11; 3])));
     let width = full_copies(3, 2, TotalShards::Exactly(3), &mut rows);
-    assert_eq!((width, rows), (Ok(3), [0b11; 3]));
+    assert_eq!((width, rows), (Ok(3), low([0b11; 3])));
 }
 
 #[test]
@@ -269,6 +317,7 @@ fn floors() {
     assert_eq!(min_shards_per_replica(3, 1, 4, 2, 0), Ok(4));
     // where the Rust's byte product overflows
     assert_eq!(min_shards_per_replica(3, 2, 64, 1, 0), Ok(64));
+    assert_eq!(min_shards_per_replica(3, 2, 255, 1, 0), Ok(255));
     assert_eq!(min_shards_per_replica(3, 3, 4, 2, 0), Err(Refusal(2)));
     assert_eq!(min_shards_per_replica(3, 1, 4, 3, 0), Err(Refusal(14)));
     assert_eq!(min_shards_per_replica(3, 1, 4, 2, 0b1000), Err(Refusal(16)));
@@ -292,8 +341,8 @@ const POLICY: PolicyInput = PolicyInput {
     ],
     inflight: &[0; 3],
     alive: 0b111,
-    init: &[4, 2, 1],
-    table: &[1, 2, 4, 3, 3, 3],
+    init: &low([4, 2, 1]),
+    table: &low([1, 2, 4, 3, 3, 3]),
 };
 
 /// One shard takes 60 more.
@@ -328,14 +377,14 @@ const NO_TABLE: PolicyInput = PolicyInput {
 #[test]
 fn policies() {
     for (input, choice, expected) in [
-        (POLICY, Choice::Balanced(1), [1, 2, 4]),
-        (BUSY, Choice::Balanced(2), [3, 3, 3]),
-        (FIXED, Choice::Balanced(1), [1, 2, 4]),
-        (ALONE, Choice::Balanced(2), [3, 3, 3]),
-        (UNBALANCED, Choice::Initial, [4, 2, 1]),
-        (NO_TABLE, Choice::Initial, [4, 2, 1]),
+        (POLICY, Choice::Balanced(1), low([1, 2, 4])),
+        (BUSY, Choice::Balanced(2), low([3, 3, 3])),
+        (FIXED, Choice::Balanced(1), low([1, 2, 4])),
+        (ALONE, Choice::Balanced(2), low([3, 3, 3])),
+        (UNBALANCED, Choice::Initial, low([4, 2, 1])),
+        (NO_TABLE, Choice::Initial, low([4, 2, 1])),
     ] {
-        let mut rows = [UNTOUCHED; 3];
+        let mut rows = [UNWRITTEN; 3];
         assert_eq!(pick_assignment_policy(input), Ok(choice));
         assert_eq!(policy_rows(input, &mut rows), Ok(choice));
         assert_eq!(rows, expected);
@@ -347,17 +396,17 @@ fn policies_refused() {
     let changes: [Change<PolicyInput>; 11] = [
         (2, |input| input.f = 3),
         (3, |input| input.own = 3),
-        (4, |input| input.w = 65),
+        (4, |input| input.w = 256),
         (5, |input| input.majority = 4),
         (14, |input| input.d = 3),
         (15, |input| input.size = (1 << 30) + 1),
         (15, |input| input.inflight = &[0, FAR, 0]),
         (16, |input| input.alive = 0b1000),
-        (16, |input| input.init = &[4, 2, 8]),
-        (17, |input| input.table = &[1, 2, 4]),
+        (16, |input| input.init = const { &low([4, 2, 8]) }),
+        (17, |input| input.table = const { &low([1, 2, 4]) }),
         (17, |input| input.models = &[[0.0; 3]; 2]),
     ];
-    let mut rows = [UNTOUCHED; 3];
+    let mut rows = [UNWRITTEN; 3];
     for (number, change) in changes {
         let mut input = POLICY;
         change(&mut input);
@@ -365,24 +414,26 @@ fn policies_refused() {
         assert_eq!(policy_rows(input, &mut rows), Err(Refusal(number)));
     }
     assert_eq!(policy_rows(POLICY, &mut rows[..2]), Err(Refusal(17)));
-    assert_eq!(rows, [UNTOUCHED; 3]);
+    assert_eq!(rows, [UNWRITTEN; 3]);
 }
 
 #[test]
 fn layout_texts() {
-    let mut rows = [UNTOUCHED; 3];
+    let mut rows = [UNWRITTEN; 3];
     let mut read = |text: &str| {
         parse_init_assignment(3, 4, 6, text.as_bytes(), &mut rows).unwrap();
         rows
     };
-    assert_eq!(read("3"), [0b111, 0b11100, 0b110001]);
-    assert_eq!(read(""), [0b11, 0b1100, 0b110000]);
-    assert_eq!(read("2:5,0/0:1"), [0b10, 0, 0b100001]);
+    assert_eq!(read("3"), low([0b111, 0b11100, 0b110001]));
+    assert_eq!(read(""), low([0b11, 0b1100, 0b110000]));
+    assert_eq!(read("2:5,0/0:1"), low([0b10, 0, 0b100001]));
+    parse_init_assignment(3, 4, 255, b"2:254,64/0:63", &mut rows).unwrap();
+    assert_eq!(rows, [one(63), [0; 4], [0, 1, 0, 1 << 62]]);
 }
 
 #[test]
 fn layout_texts_refused() {
-    let mut rows = [UNTOUCHED; 3];
+    let mut rows = [UNWRITTEN; 3];
     let mut refused = |d, total, text: &str| {
         parse_init_assignment(3, d, total, text.as_bytes(), &mut rows).unwrap_err()
     };
@@ -392,25 +443,31 @@ fn layout_texts_refused() {
     assert_eq!(refused(4, 6, "3:0"), Refusal(9));
     assert_eq!(refused(4, 6, "0:"), Refusal(7));
     assert_eq!(refused(4, 7, ""), Refusal(14));
-    assert_eq!(refused(4, 65, ""), Refusal(4));
+    assert_eq!(refused(4, 256, ""), Refusal(4));
     let short = parse_init_assignment(3, 4, 6, b"", &mut rows[..2]);
     assert_eq!(short, Err(Refusal(17)));
-    assert_eq!(rows, [UNTOUCHED; 3]);
+    assert_eq!(rows, [UNWRITTEN; 3]);
 }
 
 #[test]
 fn gossip() {
-    let mut exclusions = [UNTOUCHED; 4];
+    let mut exclusions = [UNWRITTEN; 4];
     let mut asked = |own, source, have| {
-        let (rows, alive) = ([1, 2, 4, 8], 0b1111);
+        let (rows, alive, have) = (low([1, 2, 4, 8]), 0b1111, [have, 0, 0, 0]);
         let asked = gossip_targets_excl(4, own, source, 2, 4, have, &rows, alive, &mut exclusions);
         (asked, exclusions)
     };
-    assert_eq!(asked(4, 0, 0b11), (Err(Refusal(3)), [UNTOUCHED; 4]));
-    assert_eq!(asked(1, 0, 0b10000), (Err(Refusal(16)), [UNTOUCHED; 4]));
-    assert_eq!(asked(1, 0, 0b11), (Ok(0b0100), [0, 0, 0b11, 0]));
+    assert_eq!(asked(4, 0, 0b11), (Err(Refusal(3)), [UNWRITTEN; 4]));
+    assert_eq!(asked(1, 0, 0b10000), (Err(Refusal(16)), [UNWRITTEN; 4]));
+    assert_eq!(asked(1, 0, 0b11), (Ok(0b0100), low([0, 0, 0b11, 0])));
     // round the ring from 3, the source 1 last
-    assert_eq!(asked(3, 1, 0b1000), (Ok(0b0001), [0b1000, 0, 0, 0]));
+    assert_eq!(asked(3, 1, 0b1000), (Ok(0b0001), low([0b1000, 0, 0, 0])));
+    let rows = [one(0), one(64), one(128), one(254)];
+    let asked = gossip_targets_excl(4, 1, 0, 2, 255, one(64), &rows, 0b1111, &mut exclusions);
+    let left_out = [[0; 4], [0; 4], one(64), [0; 4]];
+    assert_eq!((asked, exclusions), (Ok(0b0100), left_out));
+    let asked = gossip_targets_excl(4, 1, 0, 2, 254, one(254), &rows, 0b1111, &mut exclusions);
+    assert_eq!((asked, exclusions), (Err(Refusal(16)), left_out));
 }
 
 #[test]
@@ -425,7 +482,7 @@ fn opened_tally() {
         value_low: 99,
         heard: 0,
         committed: 0,
-        rows: [0; 16],
+        rows: [[0; 4]; 16],
     };
     assert_eq!(Tally::open(5, 3, 2, 4, 7, 6, 99), Ok(opened));
 }
@@ -433,28 +490,43 @@ fn opened_tally() {
 #[test]
 fn tallies() {
     let mut tally = Tally::open(3, 2, 2, 3, 7, 5, 99).unwrap();
-    let mut reply = |source, row| tally.accept_reply(source, 7, 5, 99, row, &ANY_ONE);
+    let mut reply = |source, row| tally.accept_reply(source, 7, 5, 99, [row, 0, 0, 0], &ANY_ONE);
     assert_eq!(reply(0, 0b11), Ok(Status::Waiting));
     assert_eq!(reply(1, 0), Ok(Status::Waiting));
     assert_eq!(reply(1, 0b1), Ok(Status::Waiting));
     assert_eq!(reply(2, 0b10), Ok(Status::Committed));
     assert_eq!((tally.heard, tally.committed), (0b111, 1));
-    assert_eq!(tally.rows[..3], [0b11, 0b1, 0b10]);
+    assert_eq!(tally.rows[..3], low([0b11, 0b1, 0b10]));
     let committed = tally;
-    let again = tally.accept_reply(2, 7, 5, 99, 0b100, &ANY_ONE);
+    let again = tally.accept_reply(2, 7, 5, 99, [0b100, 0, 0, 0], &ANY_ONE);
     assert_eq!(again, Ok(Status::AlreadyCommitted));
     assert_eq!(tally, committed);
 }
 
 #[test]
+fn tallies_of_far_shards() {
+    let mut tally = Tally::open(3, 2, 2, 255, 7, 5, 99).unwrap();
+    let mut reply = |source, row| tally.accept_reply(source, 7, 5, 99, row, &ANY_ONE);
+    assert_eq!(reply(0, [1, 2, 4, 8]), Ok(Status::Waiting));
+    assert_eq!(reply(1, one(254)), Ok(Status::Waiting));
+    assert_eq!(reply(2, one(255)), Err(Refusal(16)));
+    assert_eq!(reply(1, one(64)), Ok(Status::Committed));
+    let rows = [[1, 2, 4, 8], [0, 1, 0, 1 << 62], [0; 4]];
+    assert_eq!((tally.heard, &tally.rows[..3]), (0b011, &rows[..]));
+}
+
+#[test]
 fn tallies_refused() {
     assert_eq!(Tally::open(17, 2, 2, 3, 7, 5, 99), Err(Refusal(1)));
-    assert_eq!(Tally::open(3, 2, 2, 65, 7, 5, 99), Err(Refusal(4)));
+    assert_eq!(Tally::open(3, 2, 2, 256, 7, 5, 99), Err(Refusal(4)));
     assert_eq!(Tally::open(3, 4, 2, 3, 7, 5, 99), Err(Refusal(5)));
     let mut tally = Tally::open(3, 2, 2, 3, 7, 5, 99).unwrap();
-    tally.accept_reply(0, 7, 5, 99, 0b11, &ANY_ONE).unwrap();
+    tally
+        .accept_reply(0, 7, 5, 99, [0b11, 0, 0, 0], &ANY_ONE)
+        .unwrap();
     let before = tally;
     let mut refused = |source, ballot, high, low, row, faults: &[u64]| {
+        let row = [row, 0, 0, 0];
         let reply = tally.accept_reply(source, ballot, high, low, row, faults);
         (reply.unwrap_err(), tally)
     };
@@ -487,7 +559,7 @@ fn refused_answers_are_zero_otherwise() {
             value_low: 0,
             heard: 0,
             committed: 0,
-            rows: [0; 16],
+            rows: [[0; 4]; 16],
         }
     );
     let text = b"probs:1e22";

@@ -4,7 +4,7 @@ use mathlib.Core.Path.{_≡_, refl, sym, ap, subst, _∙_}
 use mathlib.Core.Bool.{Bool, true, false, not, cond}
 use mathlib.Core.List.{List, [], _∷_}
 use mathlib.Core.Option.{Option, none, some}
-use Prim.Native.Nat.{ℕ, _+_, _-_, _*_, _/_, _≤_, _<_, max}
+use Prim.Native.Nat.{ℕ, suc, _+_, _-_, _*_, _/_, _≤_, _<_, max}
 use native.Mathlib.Nat.{mul-le-mul, div-le-self, sub-eq-zero-of-le}
 use native.Mathlib.Numerals.{add-one}
 use native.Mathlib.Omega.{arith}
@@ -15,13 +15,17 @@ use Rattle.refusals.specs.First.{Case}
 use Rattle.refusals.specs.Outcome.{Outcome, refused, accepted}
 use Rattle.refusals.proofs.Outcomes.{is-refused, is-accepted}
 use Rattle.bitmap.specs.Mask.{count}
+use Rattle.rows.specs.Row.{rowsIn, spelled}
+use Rattle.rows.specs.WordLaws.{Words}
+use Rattle.rows.specs.TableLaws.{rows-spelled, part-spelled}
+use Rattle.refusals.specs.Limits.{mostShards}
 use Rattle.times.specs.declared.PerfModel.{PerfModel}
 use Rattle.adaptive.specs.declared.Policy.{Policy}
-use Rattle.adaptive.specs.declared.Policy.the-variants.{Balanced}
+use Rattle.adaptive.specs.declared.Policy.the-variants.{Initial, Balanced}
 use Rattle.adaptive.specs.Floor.{floorOf}
-use Rattle.adaptive.specs.Policy.{isTable, hasCount, policyRefusal, bestShards, chosen, policyOf, rowsOf, Holds}
+use Rattle.adaptive.specs.Policy.{isBalancedTable, hasCount, policyRefusal, bestShards, chosen, policyOf, rowsOf, Holds}
 use Rattle.adaptive.specs.RefusalLaws.{PolicySound, policy-sound}
-use Rattle.adaptive.specs.PolicyLaws.{rows-inside, count-held}
+use Rattle.adaptive.specs.PolicyLaws.{rows-inside, initial-means, count-held}
 
 -- ---- the number of the first of some cases that holds, or what the cases after them give
 abbrev pub onwards : List Case → ℕ → ℕ
@@ -35,8 +39,8 @@ module _ (f d majority alive : ℕ) where
   unfolding floorOf
   no-floor h = rw (sub-eq-zero-of-le h) (omega arith)
 
-  pub floor-small : f ≤ 16 → d ≤ 64 → majority ≤ 16 → (majority + f + 1 - alive) * (d / majority) ≤ 2112
-  floor-small a b c = mul-le-mul {n₂ = 33} {m₂ = 64} (omega arith) (omega (arith, div-le-self d majority))
+  pub floor-small : f ≤ 16 → d ≤ mostShards → majority ≤ 16 → (majority + f + 1 - alive) * (d / majority) ≤ 8415
+  floor-small a b c = mul-le-mul {n₂ = 33} {m₂ = 255} (omega arith) (omega (arith, div-le-self d majority))
 
   pub floor-least : (majority + f + 1 - alive) * (d / majority) ≤ d → (majority + f + 1 - alive) * (d / majority) ≡ floorOf f d majority alive
   unfolding floorOf
@@ -48,16 +52,16 @@ module _ (f d majority alive : ℕ) where
 
 pub ruleset floors = (no-floor, floor-least, floor-most)
 
--- ---- `is_table`
-pub table-small : (n d majority : ℕ) → n ≤ 16 → d ≤ 64 → n * (d - d / majority + 1) ≤ 1040
-table-small n d majority a b = mul-le-mul {m₂ = 65} a (omega arith)
+-- ---- `is_balanced_table`
+pub table-small : (n d majority : ℕ) → n ≤ 16 → d ≤ mostShards → n * (d - d / majority + 1) ≤ 4096
+table-small n d majority a b = mul-le-mul {m₂ = 256} a (omega arith)
 
 module _ (n d majority len : ℕ) where
-  pub no-table : len ≡ 0 → true ≡ isTable n d majority len
+  pub no-table : len ≡ 0 → true ≡ isBalancedTable n d majority len
   no-table e = rw (eq-eqb len 0 e)
 
-  pub whole-table : (len ≡ 0 → ⊥) → eqb len (n * (d - d / majority + 1)) ≡ isTable n d majority len
-  whole-table h = rw (ne-eqb len 0 h, add-one)
+  pub whole-table : (r : Bool) → (len ≡ 0 → ⊥) → r ≡ eqb len (n * (d - d / majority + 1) * 4) → r ≡ isBalancedTable n d majority len
+  whole-table r h e = e ∙ rw (ne-eqb len 0 h, add-one)
 
 -- ---- `has_count`
 module _ (d majority len shards : ℕ) where
@@ -72,25 +76,35 @@ module _ (d majority len shards : ℕ) where
 
 pub ruleset counts = (none-there, below-least, at-most)
 
--- ---- `rows_of`: of a count of the table
-module _ (n d majority : ℕ) (choice : Policy) (shards len : ℕ) (e : choice ≡ Balanced shards) (h : Holds n d majority (chosen choice) len) where
-  pub held : Holds n d majority (accepted (some shards)) len
-  held = subst (λ (c : Policy). Holds n d majority (chosen c) len) e h
+-- ---- `rows_of`
+module _ (n d majority : ℕ) (choice : Policy) (initial table : List ℕ) (h : Holds n d majority (chosen choice) (length initial) (length table)) where
+  -- of the initial layout
+  pub initial-taken : choice ≡ Initial → Words initial → initial ≡ spelled (rowsOf n d majority (chosen choice) (rowsIn initial) (rowsIn table))
+  initial-taken e words =
+      let l : length initial ≡ n * 4 = subst (λ (c : Policy). Holds n d majority (chosen c) (length initial) (length table)) e h in
+      rw e (sym (rows-spelled initial n words l))
 
-  -- the rows of the count end within the table, and that is small
-  pub part-inside : (shards - d / majority) * n + n ≤ len
-  part-inside = let u = held in rows-inside n d majority shards len (u .3) (u .4) (u .5)
+  -- of a count of the table
+  module _ (shards : ℕ) (e : choice ≡ Balanced shards) where
+    pub held : Holds n d majority (accepted (some shards)) (length initial) (length table)
+    held = subst (λ (c : Policy). Holds n d majority (chosen c) (length initial) (length table)) e h
 
-  pub part-small : (shards - d / majority) * n + n ≤ 1040
-  part-small =
-      let u = held in
-      let m = table-small n d majority (u .0) (u .1) in
-      omega (arith, m, part-inside, u .5, ap (λ (k : ℕ). n * k) (add-one (d - d / majority)))
+    -- the rows of the count end within the table, and that is small
+    inside : (shards - d / majority) * n + n ≤ n * suc (d - d / majority)
+    inside = let u = held in rows-inside n d majority shards (n * suc (d - d / majority)) (u .3) (u .4) refl
 
-  pub part-taken : (initial table : List ℕ) (from : ℕ) → from ≡ (shards - d / majority) * n → take (from + n - from) (drop from table) ≡ rowsOf n d majority (chosen choice) initial table
-  part-taken initial table from q =
-      let k : from + n - from ≡ n = omega arith in
-      rw e (rw (k, q) refl)
+    pub part-inside : ((shards - d / majority) * n + n) * 4 ≤ length table
+    part-inside = omega (arith, inside, held .5)
+
+    pub part-small : (shards - d / majority) * n + n ≤ 4096
+    part-small =
+        let u = held in
+        let m = table-small n d majority (u .0) (u .1) in
+        omega (arith, m, inside, ap (λ (k : ℕ). n * k) (add-one (d - d / majority)))
+
+    pub part-taken : Words table → (part : List ℕ) → part ≡ take (n * 4) (drop ((shards - d / majority) * n * 4) table)
+        → part ≡ spelled (rowsOf n d majority (chosen choice) (rowsIn initial) (rowsIn table))
+    part-taken words part q = rw e (q ∙ part-spelled table (n * suc (d - d / majority)) ((shards - d / majority) * n) n words (held .5))
 
 -- ---- `pick_assignment_policy`: got is the number that refuses, or 0
 module _ (n f own d w majority size : ℕ) (inflight : List ℕ) (alive : ℕ) (initial table : List ℕ) (got : ℕ)
@@ -128,10 +142,12 @@ module _ (n f own d w majority size : ℕ) (inflight : List ℕ) (alive : ℕ) (
 
 -- ---- `pick_assignment_policy_rows`: the table has what was chosen
 module _ (n f own d w majority size : ℕ) (inflight : List ℕ) (models : List PerfModel) (alive : ℕ) (initial table : List ℕ) (adaptive balanced : Bool) where
-  pub policy-holds : {o : Outcome (Option ℕ)} → o ≡ policyOf n f own d w majority size inflight models alive initial table adaptive balanced → Holds n d majority o (length table)
+  pub policy-holds : {o : Outcome (Option ℕ)} → o ≡ policyOf n f own d w majority size inflight models alive initial table adaptive balanced → Holds n d majority o (length initial) (length table)
   policy-holds {o} e = go o (sym e)
     where
-      go : (o : Outcome (Option ℕ)) → policyOf n f own d w majority size inflight models alive initial table adaptive balanced ≡ o → Holds n d majority o (length table)
+      go : (o : Outcome (Option ℕ)) → policyOf n f own d w majority size inflight models alive initial table adaptive balanced ≡ o → Holds n d majority o (length initial) (length table)
       go (refused k) q = tt
-      go (accepted none) q = tt
+      go (accepted none) q =
+          let z = initial-means n f own d w majority size inflight models alive initial table adaptive balanced .0 q .0 in
+          policy-sound n f own d w majority size inflight alive initial table .0 z .initial-rows
       go (accepted (some c)) q = count-held n f own d w majority size inflight models alive initial table adaptive balanced c q

@@ -2,15 +2,16 @@
 -- Assumes nothing.
 use mathlib.Core.Path.{_≡_, refl}
 use mathlib.Core.Bool.{Bool, true, false}
-use mathlib.Core.List.{List, [], _∷_, map}
+use mathlib.Core.List.{List, [], _∷_, _++_, map}
 use mathlib.Core.Option.{Option, none, some}
-use Prim.Native.Nat.{ℕ}
+use Prim.Native.Nat.{ℕ, _-_, _^_}
 use lib.Ieee.{add, mul, div, ofInt, ofBits}
 use lib.ListN.{replicate}
 use Rattle.lists.specs.Below.{someBelow, eachBelow}
 use Rattle.lists.specs.First.{leastUpTo}
 use Rattle.lists.specs.Sort.{lowerBy, upperBy}
 use Rattle.bitmap.specs.Mask.{count}
+use Rattle.rows.specs.Row.{value, wordsOf, rowIn, rowsIn, spelled}
 use Rattle.floats.specs.Floats.{totalLe}
 use Rattle.refusals.specs.Outcome.{Outcome, refused, accepted}
 use Rattle.refusals.specs.Limits.{peersFit, isPopulation, isShards, isQuorum}
@@ -50,18 +51,22 @@ floors =
     ∷ floor 3 2 4 2 5 (accepted 4)
     ∷ floor 1 0 1 1 1 (accepted 1)
     ∷ floor 1 0 1 1 0 (accepted 1)
-    -- the largest numbers; 4 × 64 = 256, at which the bytes of the Rust overflow
+    -- large numbers; 4 × 64 = 256 and 6 × 85 = 510, at which the bytes of the Rust overflow
     ∷ floor 16 15 64 16 65535 (accepted 64)
     ∷ floor 16 0 64 16 65535 (accepted 4)
     ∷ floor 16 0 64 8 65535 (accepted 0)
     ∷ floor 16 15 64 16 0 (accepted 64)
     ∷ floor 3 2 64 1 0 (accepted 64)
+    ∷ floor 16 15 255 15 65535 (accepted 255)
+    ∷ floor 16 0 255 15 65535 (accepted 0)
+    ∷ floor 16 2 240 8 255 (accepted 90)
+    ∷ floor 5 2 255 3 0 (accepted 255)
     -- the population; the tolerance; the data shards; the majority; no multiple; one alive that is none of them
     ∷ floor 0 0 4 2 0 (refused 1)
     ∷ floor 17 1 4 2 7 (refused 1)
     ∷ floor 3 3 4 2 7 (refused 2)
     ∷ floor 3 1 0 2 7 (refused 4)
-    ∷ floor 3 1 65 2 7 (refused 4)
+    ∷ floor 3 1 256 2 7 (refused 4)
     ∷ floor 3 1 4 0 7 (refused 5)
     ∷ floor 3 1 4 4 7 (refused 5)
     ∷ floor 3 1 5 2 7 (refused 14)
@@ -69,7 +74,7 @@ floors =
     -- two cases hold: the first refuses
     ∷ floor 17 17 4 2 7 (refused 1)
     ∷ floor 3 3 0 2 7 (refused 2)
-    ∷ floor 3 1 65 0 7 (refused 4)
+    ∷ floor 3 1 256 0 7 (refused 4)
     ∷ floor 3 1 7 4 7 (refused 5)
     ∷ floor 3 1 5 2 8 (refused 14)
     ∷ []
@@ -113,12 +118,17 @@ record Line : Type 0 where
   balanced : Bool
   says : Outcome (Option ℕ) × List ℕ
 
+-- the two tables and the part of them by their words
+words : ℕ → ℕ → ℕ → ℕ → ℕ → ℕ → ℕ → List ℕ → List PerfModel → ℕ → List ℕ → List ℕ → Bool → Bool → Outcome (Option ℕ) → List ℕ → Line
+words n f own d w majority size inflight models alive initial table adaptive balanced choice part = record { n = n; f = f; own = own; d = d; w = w; majority = majority; size = size; inflight = inflight; models = models; alive = alive; initial = initial; table = table; adaptive = adaptive; balanced = balanced; says = (choice, part) }
+
+-- and by their rows
 line : ℕ → ℕ → ℕ → ℕ → ℕ → ℕ → ℕ → List ℕ → List PerfModel → ℕ → List ℕ → List ℕ → Bool → Bool → Outcome (Option ℕ) → List ℕ → Line
-line n f own d w majority size inflight models alive initial table adaptive balanced choice rows = record { n = n; f = f; own = own; d = d; w = w; majority = majority; size = size; inflight = inflight; models = models; alive = alive; initial = initial; table = table; adaptive = adaptive; balanced = balanced; says = (choice, rows) }
+line n f own d w majority size inflight models alive initial table adaptive balanced choice rows = words n f own d w majority size inflight models alive (spelled initial) (spelled table) adaptive balanced choice (spelled rows)
 
 -- n, f, our own number, d, w, the majority, size, bytes in flight, models, those alive, the two tables, adaptive, balanced; the choice, and the rows
 choices : List Line
-unfolding line
+unfolding words line
 choices =
     -- unbalanced, adaptive or not
     line 3 1 0 4 6 2 0 idle [] 7 laid nine false false (accepted none) laid
@@ -173,16 +183,20 @@ choices =
     ∷ line 3 1 0 4 6 2 1073741824 (0 ∷ 1099511627776 ∷ 1099511627776 ∷ []) [] 7 laid nine false true (accepted (some 2)) (11 ∷ 12 ∷ 13 ∷ [])
     -- the largest numbers
     ∷ line 16 15 15 64 64 16 0 (replicate 16 1099511627776) [] 65535 (replicate 16 18446744073709551615) [] false true (accepted none) (replicate 16 18446744073709551615)
+    ∷ line 16 15 15 255 255 15 0 (replicate 16 1099511627776) [] 65535 (replicate 16 (2 ^ 255 - 1)) [] false true (accepted none) (replicate 16 (2 ^ 255 - 1))
+    -- counts above 64: of row 0, and of the floor
+    ∷ line 1 0 0 70 70 1 0 [] [] 1 ((2 ^ 70 - 1) ∷ []) ((2 ^ 69) ∷ []) false true (accepted (some 70)) ((2 ^ 69) ∷ [])
+    ∷ line 2 0 0 130 130 2 0 (0 ∷ 0 ∷ []) [] 3 ((2 ^ 66 - 1) ∷ 0 ∷ []) (eachBelow (λ (i : ℕ). 2 ^ i) 130 ++ (1 ∷ 2 ∷ [])) false true (accepted (some 66)) (4 ∷ 8 ∷ [])
     ∷ []
 
 -- what both entries come to
 picked : Line → Outcome (Option ℕ) × List ℕ
 picked l =
     let c = policyOf (l .n) (l .f) (l .own) (l .d) (l .w) (l .majority) (l .size) (l .inflight) (l .models) (l .alive) (l .initial) (l .table) (l .adaptive) (l .balanced) in
-    (c, rowsOf (l .n) (l .d) (l .majority) c (l .initial) (l .table))
+    (c, spelled (rowsOf (l .n) (l .d) (l .majority) c (rowsIn (l .initial)) (rowsIn (l .table))))
 
 choices-are : map picked choices ≡ map (λ (l : Line). l .says) choices
-unfolding line choices picked policyOf policyRefusal isPopulation isShards isQuorum peersFit someBelow count floorOf bestShards bestStep leastUpTo timeOfStep stepTime peerTimes eachBelow predictOf add mul div ofInt ofBits totalLe lowerBy upperBy
+unfolding words line choices picked value wordsOf rowIn rowsIn spelled policyOf policyRefusal isPopulation isShards isQuorum peersFit someBelow count floorOf bestShards bestStep leastUpTo timeOfStep stepTime peerTimes eachBelow predictOf add mul div ofInt ofBits totalLe lowerBy upperBy
 choices-are = refl
 
 -- ---- what is refused, and with which number, whether or not it is adaptive and balanced; the rows are then none
@@ -191,14 +205,22 @@ record Wrong : Type 0 where
   given : Bool → Bool → Line
 
 wrong : ℕ → ℕ → ℕ → ℕ → ℕ → ℕ → ℕ → List ℕ → ℕ → List ℕ → List ℕ → ℕ → Wrong
-unfolding line
+unfolding words line
 wrong n f own d w majority size inflight alive initial table number = record {
   number = number;
   given = λ adaptive balanced. line n f own d w majority size inflight [] alive initial table adaptive balanced (refused number) [];
 }
 
+-- by the words of the two tables
+worded : ℕ → ℕ → ℕ → ℕ → ℕ → ℕ → ℕ → List ℕ → ℕ → List ℕ → List ℕ → ℕ → Wrong
+unfolding words
+worded n f own d w majority size inflight alive initial table number = record {
+  number = number;
+  given = λ adaptive balanced. words n f own d w majority size inflight [] alive initial table adaptive balanced (refused number) [];
+}
+
 refusals : List Wrong
-unfolding wrong
+unfolding wrong worded
 refusals =
     -- the population; the tolerance; our own number
     wrong 0 1 0 4 6 2 0 idle 7 laid nine 1
@@ -208,7 +230,7 @@ refusals =
     -- the data shards and the width; the majority; no multiple
     ∷ wrong 3 1 0 0 6 2 0 idle 7 laid nine 4
     ∷ wrong 3 1 0 8 6 2 0 idle 7 laid nine 4
-    ∷ wrong 3 1 0 4 65 2 0 idle 7 laid nine 4
+    ∷ wrong 3 1 0 4 256 2 0 idle 7 laid nine 4
     ∷ wrong 3 1 0 4 6 0 0 idle 7 laid nine 5
     ∷ wrong 3 1 0 4 6 4 0 idle 7 laid nine 5
     ∷ wrong 3 1 0 5 6 2 0 idle 7 laid nine 14
@@ -221,6 +243,12 @@ refusals =
     ∷ wrong 3 1 0 4 6 2 0 idle 8 laid nine 16
     ∷ wrong 3 1 0 4 6 2 0 idle 7 (3 ∷ 40 ∷ 64 ∷ []) nine 16
     ∷ wrong 3 1 0 4 6 2 0 idle 7 laid (11 ∷ 12 ∷ 13 ∷ 21 ∷ 22 ∷ 23 ∷ 31 ∷ 32 ∷ 64 ∷ []) 16
+    ∷ wrong 3 1 0 4 70 2 0 idle 7 ((2 ^ 69) ∷ (2 ^ 70) ∷ 3 ∷ []) nine 16
+    -- a row of which a word is missing, or that is one too many; the words that are there are tested first
+    ∷ worded 1 0 0 2 70 1 0 [] 1 (3 ∷ 0 ∷ 0 ∷ []) [] 17
+    ∷ worded 1 0 0 2 70 1 0 [] 1 (3 ∷ 64 ∷ 0 ∷ []) [] 16
+    ∷ worded 1 0 0 2 70 1 0 [] 1 (3 ∷ 0 ∷ 0 ∷ 0 ∷ []) (3 ∷ 0 ∷ 0 ∷ 0 ∷ 1 ∷ []) 17
+    ∷ worded 1 0 0 2 70 1 0 [] 1 (3 ∷ 0 ∷ 0 ∷ 0 ∷ []) (3 ∷ 0 ∷ 0 ∷ 0 ∷ 1 ∷ 64 ∷ []) 16
     -- too few rows, and too many; a table of counts 2 and 4 alone
     ∷ wrong 3 1 0 4 6 2 0 idle 7 (3 ∷ 40 ∷ []) nine 17
     ∷ wrong 3 1 0 4 6 2 0 idle 7 (3 ∷ 40 ∷ 41 ∷ 42 ∷ []) nine 17
@@ -250,5 +278,5 @@ flagged : Wrong → List Line
 flagged l = l .given false false ∷ l .given false true ∷ l .given true false ∷ l .given true true ∷ []
 
 refusals-are : map (λ (l : Wrong). map picked (flagged l)) refusals ≡ map (λ (l : Wrong). replicate 4 (refused (l .number), [])) refusals
-unfolding line wrong refusals flagged picked policyOf policyRefusal isPopulation isShards isQuorum peersFit someBelow
+unfolding words line wrong worded refusals flagged picked value wordsOf rowIn rowsIn spelled eachBelow policyOf policyRefusal isPopulation isShards isQuorum peersFit someBelow
 refusals-are = refl

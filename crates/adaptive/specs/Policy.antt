@@ -6,12 +6,12 @@ use mathlib.Core.Option.{Option, none, some}
 use Prim.Native.Nat.{ℕ, suc, _-_, _*_, _/_, _%_, _≤_, _<_, max}
 use lib.Dec.{leb, eqb}
 use lib.ListN.{length, take, drop}
-use Rattle.lists.specs.All.{all}
-use Rattle.bitmap.specs.Mask.{count, rowIn}
+use Rattle.bitmap.specs.Mask.{count}
+use Rattle.rows.specs.Row.{rowIn}
 use Rattle.refusals.specs.Numbers.{POPULATION, TOLERANCE, REPLICA, SHARDS, QUORUM, MULTIPLE, BYTES, MASK, TABLE}
 use Rattle.refusals.specs.First.{Case, unless, firstOf}
 use Rattle.refusals.specs.Outcome.{Outcome, refused, accepted, outcome}
-use Rattle.refusals.specs.Limits.{isPopulation, isTolerance, isReplica, isShards, isQuorum, isSize, peersFit, isMask, isRow}
+use Rattle.refusals.specs.Limits.{mostShards, isPopulation, isTolerance, isReplica, isShards, isQuorum, isSize, peersFit, isMask, areRows, isTable}
 use Rattle.times.specs.declared.PerfModel.{PerfModel}
 use Rattle.adaptive.specs.declared.Policy.{Policy}
 use Rattle.adaptive.specs.declared.Policy.the-variants.{Refused, Initial, Balanced}
@@ -20,15 +20,15 @@ use Rattle.steps.specs.Steps.{inFlight, stepShards, bestStep}
 
 -- ---- the balanced table: n rows for each whole count, rising, from d / majority to d, or it is empty
 
--- it may have that many rows
-abbrev pub isTable : ℕ → ℕ → ℕ → ℕ → Bool
-isTable n d majority len = eqb len 0 || eqb len (n * suc (d - d / majority))
+-- it may have that many words, four a row
+abbrev pub isBalancedTable : ℕ → ℕ → ℕ → ℕ → Bool
+isBalancedTable n d majority len = eqb len 0 || isTable (n * suc (d - d / majority)) len
 
--- one of that many rows has the count
+-- one of that many words has the count
 abbrev pub hasCount : ℕ → ℕ → ℕ → ℕ → Bool
 hasCount d majority len shards = not (eqb len 0) && (leb (d / majority) shards && leb shards d)
 
--- the rows of the count
+-- the rows of the count, of the table's rows
 abbrev pub rowsFor : ℕ → ℕ → ℕ → ℕ → List ℕ → List ℕ
 rowsFor n d majority shards table = take n (drop ((shards - d / majority) * n) table)
 
@@ -45,10 +45,10 @@ policyCases n f own d w majority size inflight alive initial table =
     ∷ unless (isSize size) BYTES
     ∷ unless (peersFit n own (inFlight inflight)) BYTES
     ∷ unless (isMask n alive) MASK
-    ∷ unless (all (isRow w) initial) MASK
-    ∷ unless (all (isRow w) table) MASK
-    ∷ unless (eqb (length initial) n) TABLE
-    ∷ unless (isTable n d majority (length table)) TABLE
+    ∷ unless (areRows w initial) MASK
+    ∷ unless (areRows w table) MASK
+    ∷ unless (isTable n (length initial)) TABLE
+    ∷ unless (isBalancedTable n d majority (length table)) TABLE
     ∷ []
 
 unfoldable pub policyRefusal : ℕ → ℕ → ℕ → ℕ → ℕ → ℕ → ℕ → List ℕ → ℕ → List ℕ → List ℕ → ℕ
@@ -77,14 +77,15 @@ policyOf n f own d w majority size inflight models alive initial table adaptive 
     outcome (policyRefusal n f own d w majority size inflight alive initial table)
     (cond balanced (choiceOf d majority (length table) (max (bestShards n f own d majority size inflight models initial adaptive) (floorOf f d majority (count alive)))) none)
 
--- ---- the rows of a choice: no rows where the input is refused, the initial layout, or a part of the table
+-- ---- the rows of a choice, of the rows of the two tables: none where the input is refused, the initial layout, or those of the count
 abbrev pub rowsOf : ℕ → ℕ → ℕ → Outcome (Option ℕ) → List ℕ → List ℕ → List ℕ
 rowsOf n d majority (refused k) initial table = []
 rowsOf n d majority (accepted none) initial table = initial
 rowsOf n d majority (accepted (some shards)) initial table = rowsFor n d majority shards table
 
--- a table of that many rows has those of the choice
-abbrev pub Holds : ℕ → ℕ → ℕ → Outcome (Option ℕ) → ℕ → Type 0
-Holds n d majority (refused k) len = Unit
-Holds n d majority (accepted none) len = Unit
-Holds n d majority (accepted (some shards)) len = (n ≤ 16) × (d ≤ 64) × (0 < majority) × (d / majority ≤ shards) × (shards ≤ d) × (len ≡ n * suc (d - d / majority))
+-- two tables of so many words have those of the choice
+abbrev pub Holds : ℕ → ℕ → ℕ → Outcome (Option ℕ) → ℕ → ℕ → Type 0
+Holds n d majority (refused k) initial table = Unit
+Holds n d majority (accepted none) initial table = initial ≡ n * 4
+Holds n d majority (accepted (some shards)) initial table =
+    (n ≤ 16) × (d ≤ mostShards) × (0 < majority) × (d / majority ≤ shards) × (shards ≤ d) × (table ≡ n * suc (d - d / majority) * 4)

@@ -14,8 +14,10 @@ use lib.Seq.{length-take-le, getD-take, getD-drop}
 use borrow.Author.Tests.{leb-true, le-leb, eqb-false, ne-eqb, not-true}
 use Rattle.lists.specs.AllLaws.{all-means}
 use Rattle.bitmap.specs.Mask.{count}
+use Rattle.rows.specs.Row.{rowIn, rowsIn, spelled}
+use Rattle.rows.specs.TableLaws.{rows-length, rows-at, spelled-rows, spelled-length}
 use Rattle.refusals.specs.Limits.{isRow}
-use Rattle.refusals.specs.LimitLaws.{AreRows}
+use Rattle.refusals.specs.LimitLaws.{AreRows, rows-small}
 use Rattle.refusals.specs.Outcome.{Outcome, refused, accepted}
 use Rattle.refusals.specs.OutcomeLaws.{accepted-means}
 use Rattle.refusals.specs.OutcomeLaws as Outcomes
@@ -224,43 +226,46 @@ module _ (n f own d w majority size : ℕ) (inflight : List ℕ) (models : List 
 
   -- ---- the rows, as the contract of `pick_assignment_policy_rows` has them
   abbrev rows : List ℕ
-  rows = rowsOf n d majority policy initial table
+  rows = rowsOf n d majority policy (rowsIn initial) (rowsIn table)
 
   pub record RowsAre : Type 0 where
     pub on-refusal : (k : ℕ) → policy ≡ refused k → rows ≡ []
-    pub on-initial : policy ≡ accepted none → rows ≡ initial
+    pub on-initial : policy ≡ accepted none → rows ≡ rowsIn initial
     pub on-count : (c : ℕ) → policy ≡ accepted (some c)
         → (length rows ≡ n)
-        × ((s : ℕ) → s < n → ((c - d / majority) * n + s < length table) × (getD rows s 0 ≡ getD table ((c - d / majority) * n + s) 0))
+        × ((s : ℕ) → s < n → (((c - d / majority) * n + s) * 4 + 4 ≤ length table) × (getD rows s 0 ≡ rowIn table ((c - d / majority) * n + s)))
 
   -- the table has the rows of a count that is chosen
   module _ (c : ℕ) (e : policy ≡ accepted (some c)) where
-    pub count-held : Holds n d majority (accepted (some c)) (length table)
+    pub count-held : Holds n d majority (accepted (some c)) (length initial) (length table)
     count-held =
         let h = choice-means c .0 e in
         let s = policy-sound n f own d w majority size inflight alive initial table .0 (h .unrefused) in
         (s .population .1, omega (arith, s .shards), s .enough .0, h .least, h .most, ⊎-elim (λ z. absurd (h .filled z)) (λ q. q) (s .balanced-rows))
 
-    rows-end : (c - d / majority) * n + n ≤ length table
-    rows-end = let h = count-held in rows-inside n d majority c (length table) (h .3) (h .4) (h .5)
+    whole-rows : length table ≡ length (rowsIn table) * 4
+    whole-rows = let h = count-held .5 in h ∙ ap (λ (k : ℕ). k * 4) (sym (rows-length table (n * suc (d - d / majority)) h))
 
-    part-length : length (rowsFor n d majority c table) ≡ n
-    part-length = length-take-le n (drop ((c - d / majority) * n) table) (omega (arith, rows-end, length-drop ((c - d / majority) * n) table))
+    rows-end : (c - d / majority) * n + n ≤ length (rowsIn table)
+    rows-end = let h = count-held in rows-inside n d majority c (length (rowsIn table)) (h .3) (h .4) (rows-length table (n * suc (d - d / majority)) (h .5))
 
-    part-at : (s : ℕ) → s < n → getD (rowsFor n d majority c table) s 0 ≡ getD table ((c - d / majority) * n + s) 0
-    part-at s l = getD-take n (drop ((c - d / majority) * n) table) s 0 l ∙ getD-drop ((c - d / majority) * n) table s 0
+    part-length : length (rowsFor n d majority c (rowsIn table)) ≡ n
+    part-length = length-take-le n (drop ((c - d / majority) * n) (rowsIn table)) (omega (arith, rows-end, length-drop ((c - d / majority) * n) (rowsIn table)))
 
-  rows-by : (o : Outcome (Option ℕ)) → policy ≡ o → rows ≡ rowsOf n d majority o initial table
-  rows-by o e = ap (λ (x : Outcome (Option ℕ)). rowsOf n d majority x initial table) e
+    part-at : (s : ℕ) → s < n → getD (rowsFor n d majority c (rowsIn table)) s 0 ≡ getD (rowsIn table) ((c - d / majority) * n + s) 0
+    part-at s l = getD-take n (drop ((c - d / majority) * n) (rowsIn table)) s 0 l ∙ getD-drop ((c - d / majority) * n) (rowsIn table) s 0
 
-  -- no row of a refused input; the initial layout; or the n rows of the count, which stand in the table from the place (c - d / majority) * n on
+  rows-by : (o : Outcome (Option ℕ)) → policy ≡ o → rows ≡ rowsOf n d majority o (rowsIn initial) (rowsIn table)
+  rows-by o e = ap (λ (x : Outcome (Option ℕ)). rowsOf n d majority x (rowsIn initial) (rowsIn table)) e
+
+  -- no row of a refused input; the initial layout; or the n rows of the count, which stand in the table from its row (c - d / majority) * n on
   pub rows-are : RowsAre
   rows-are = record {
     on-refusal = λ k e. rows-by (refused k) e;
     on-initial = λ e. rows-by (accepted none) e;
     on-count = λ c e.
         let q = rows-by (accepted (some c)) e in
-        rw q (part-length c e, λ s l. (omega (arith, rows-end c e), part-at c e s l));
+        rw q (part-length c e, λ s l. (omega (arith, rows-end c e, whole-rows c e), part-at c e s l ∙ rows-at table ((c - d / majority) * n + s)));
   }
 
   -- of an unrefused input they are n rows of shards below w
@@ -270,15 +275,22 @@ module _ (n f own d w majority size : ℕ) (inflight : List ℕ) (models : List 
       s : PolicySound n f own d w majority size inflight alive initial table
       s = policy-sound n f own d w majority size inflight alive initial table .0 z
 
-      go : (o : Outcome (Option ℕ)) → policy ≡ o → AreRows n w (rowsOf n d majority o initial table)
+      go : (o : Outcome (Option ℕ)) → policy ≡ o → AreRows n w (rowsOf n d majority o (rowsIn initial) (rowsIn table))
       go (refused k) e = absurd (refused-means k .0 e .1 (sym (refused-means k .0 e .0) ∙ z))
-      go (accepted none) e = (s .initial-rows, all-means (isRow w) 0 initial .1 (s .each-initial))
+      go (accepted none) e = (rows-length initial n (s .initial-rows), all-means (isRow w) 0 (rowsIn initial) .1 (s .each-initial))
       go (accepted (some c)) e = (
         part-length c e,
-        all-means (isRow w) 0 (rowsFor n d majority c table) .1 (λ k l.
+        all-means (isRow w) 0 (rowsFor n d majority c (rowsIn table)) .1 (λ k l.
             let m : k < n = omega (arith, part-length c e) in
             ap (isRow w) (part-at c e k m) ∙ s .each-balanced ((c - d / majority) * n + k) (omega (arith, rows-end c e))),
       )
+
+  -- and the words that are handed out are a table of just these rows
+  pub words-fit : number ≡ 0 → (rowsIn (spelled rows) ≡ rows) × (length (spelled rows) ≡ n * 4)
+  words-fit z =
+      let s = policy-sound n f own d w majority size inflight alive initial table .0 z in
+      let r = rows-fit z in
+      (spelled-rows rows (rows-small n w rows r (s .shards .2)), spelled-length rows ∙ ap (λ (k : ℕ). k * 4) (r .0))
 
   -- they are empty exactly if the choice is a refusal
   pub rows-empty : (rows ≡ []) ↔ (policy ≡ refused number)

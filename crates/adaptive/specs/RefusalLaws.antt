@@ -9,19 +9,20 @@ use lib.Dec.{eqb}
 use lib.ListN.{length}
 use borrow.Author.Tests.{eqb-true, eq-eqb, leb-true, le-leb, ltb-true, lt-ltb, not-false}
 use Rattle.lists.specs.AllLaws.{Each, all-means}
+use Rattle.rows.specs.Row.{rowsIn}
 use Rattle.refusals.specs.FirstLaws.{none-holds}
-use Rattle.refusals.specs.Limits.{isRow}
+use Rattle.refusals.specs.Limits.{mostShards, isRow}
 use Rattle.refusals.specs.LimitLaws.{InFlight, population-means, shards-means, quorum-means, peers-fit-means}
 use Rattle.adaptive.specs.Floor.{floorCases, floorRefusal}
 use Rattle.steps.specs.Steps.{inFlight}
-use Rattle.adaptive.specs.Policy.{isTable, policyCases, policyRefusal}
+use Rattle.adaptive.specs.Policy.{isBalancedTable, policyCases, policyRefusal}
 
 -- ---- `min_shards_per_replica`
 module _ (n f d majority alive : ℕ) where
   pub record FloorSound : Type 0 where
     pub population : (1 ≤ n) × (n ≤ 16)
     pub tolerance : f < n
-    pub shards : (1 ≤ d) × (d ≤ 64)
+    pub shards : (1 ≤ d) × (d ≤ mostShards)
     pub enough : (1 ≤ majority) × (majority ≤ n)
     pub multiple : d % majority ≡ 0
     pub mask : alive < 2 ^ n
@@ -67,8 +68,8 @@ one-of a b c = (go (eqb a b) refl, back)
     back (inl e) = rw (eq-eqb a b e)
     back (inr e) = rw (eq-eqb a c e) (also (eqb a b))
 
-pub table-means : (n d majority len : ℕ) → (isTable n d majority len ≡ true) ↔ ((len ≡ 0) ⊎ (len ≡ n * suc (d - d / majority)))
-table-means n d majority len = one-of len 0 (n * suc (d - d / majority))
+pub table-means : (n d majority len : ℕ) → (isBalancedTable n d majority len ≡ true) ↔ ((len ≡ 0) ⊎ (len ≡ n * suc (d - d / majority) * 4))
+table-means n d majority len = one-of len 0 (n * suc (d - d / majority) * 4)
 
 -- ---- `pick_assignment_policy`, and its rows
 module _ (n f own d w majority size : ℕ) (inflight : List ℕ) (alive : ℕ) (initial table : List ℕ) where
@@ -76,16 +77,16 @@ module _ (n f own d w majority size : ℕ) (inflight : List ℕ) (alive : ℕ) (
     pub population : (1 ≤ n) × (n ≤ 16)
     pub tolerance : f < n
     pub replica : own < n
-    pub shards : (1 ≤ d) × (d ≤ w) × (w ≤ 64)
+    pub shards : (1 ≤ d) × (d ≤ w) × (w ≤ mostShards)
     pub enough : (1 ≤ majority) × (majority ≤ n)
     pub multiple : d % majority ≡ 0
     pub small : size ≤ 2 ^ 30
     pub in-flight : InFlight n own (inFlight inflight)
     pub mask : alive < 2 ^ n
-    pub each-initial : Each (isRow w) 0 initial
-    pub each-balanced : Each (isRow w) 0 table
-    pub initial-rows : length initial ≡ n
-    pub balanced-rows : (length table ≡ 0) ⊎ (length table ≡ n * suc (d - d / majority))
+    pub each-initial : Each (isRow w) 0 (rowsIn initial)
+    pub each-balanced : Each (isRow w) 0 (rowsIn table)
+    pub initial-rows : length initial ≡ n * 4
+    pub balanced-rows : (length table ≡ 0) ⊎ (length table ≡ n * suc (d - d / majority) * 4)
 
   pub policy-sound : (policyRefusal n f own d w majority size inflight alive initial table ≡ 0) ↔ PolicySound
   unfolding policyRefusal
@@ -102,9 +103,9 @@ module _ (n f own d w majority size : ℕ) (inflight : List ℕ) (alive : ℕ) (
           small = leb-true size (2 ^ 30) (not-false _ (search h));
           in-flight = peers-fit-means n own (inFlight inflight) .0 (not-false _ (search h));
           mask = ltb-true alive (2 ^ n) (not-false _ (search h));
-          each-initial = all-means (isRow w) 0 initial .0 (not-false _ (search h));
-          each-balanced = all-means (isRow w) 0 table .0 (not-false _ (search h));
-          initial-rows = eqb-true (length initial) n (not-false _ (search h));
+          each-initial = all-means (isRow w) 0 (rowsIn initial) .0 (not-false _ (search h));
+          each-balanced = all-means (isRow w) 0 (rowsIn table) .0 (not-false _ (search h));
+          initial-rows = eqb-true (length initial) (n * 4) (not-false _ (search h));
           balanced-rows = table-means n d majority (length table) .0 (not-false _ (search h));
         },
     λ s.
@@ -118,9 +119,9 @@ module _ (n f own d w majority size : ℕ) (inflight : List ℕ) (alive : ℕ) (
           le-leb size (2 ^ 30) (s .small),
           peers-fit-means n own (inFlight inflight) .1 (s .in-flight),
           lt-ltb alive (2 ^ n) (s .mask),
-          all-means (isRow w) 0 initial .1 (s .each-initial),
-          all-means (isRow w) 0 table .1 (s .each-balanced),
-          eq-eqb (length initial) n (s .initial-rows),
+          all-means (isRow w) 0 (rowsIn initial) .1 (s .each-initial),
+          all-means (isRow w) 0 (rowsIn table) .1 (s .each-balanced),
+          eq-eqb (length initial) (n * 4) (s .initial-rows),
           table-means n d majority (length table) .1 (s .balanced-rows),
         ),
   )

@@ -1,13 +1,14 @@
 // The balanced policy: the fewest shards a replica may hold under the peers now alive (min_shards_per_replica), and the assignment that the models favour
 // (pick_assignment_policy), as a choice and as the rows that it stands for.
 ghost use mathlib.Core.Path.{_≡_};
-ghost use Prim.Native.Nat.{_%_, _≤_, _<_, _^_, max};
-ghost use lib.ListN.{length};
-ghost use Rattle.refusals.specs.Limits.{peersFit};
+ghost use Prim.Native.Nat.{_+_, _*_, _%_, _≤_, _<_, _^_, max};
+ghost use lib.ListN.{length, take, drop};
+ghost use Rattle.rows.specs.Row.{rowsIn, spelled};
+ghost use Rattle.refusals.specs.Limits.{mostShards, peersFit};
 ghost use Rattle.refusals.specs.LimitLaws.{InFlight};
 ghost use Rattle.steps.specs.Steps.{inFlight};
 ghost use Rattle.adaptive.specs.Floor.{floorOf, floorRefusal, floored, minShardsOf};
-ghost use Rattle.adaptive.specs.Policy.{isTable, hasCount, bestShards, policyRefusal, chosen, policyOf, rowsOf, Holds};
+ghost use Rattle.adaptive.specs.Policy.{isBalancedTable, hasCount, bestShards, policyRefusal, chosen, policyOf, rowsOf, Holds};
 use bitmap::ReplicaId;
 use times::PerfModel;
 
@@ -36,7 +37,7 @@ pub fn min_shards_per_replica(n: usize, f: usize, d: usize, majority: usize, ali
 }
 
 // Picks the assignment for a value of `size` bytes and the peers now alive: the initial layout, or a count of the balanced table, which has n rows for each
-// count from d / majority to d, or nothing.
+// count from d / majority to d, or nothing. A row has four words.
 pub fn pick_assignment_policy(
     n: usize,
     f: usize,
@@ -110,7 +111,7 @@ pub fn pick_assignment_policy_rows<'a>(
     adaptive: bool,
     balanced: bool,
 ) -> &'a [u64]
-    ensures { λ r. ⌜ now r ≡ rowsOf n d majority (policyOf n f (own .0) d w majority size inflight models alive (now (initial .entry)) (now (table .entry)) adaptive balanced) (now (initial .entry)) (now (table .entry)) ⌝ }
+    ensures { λ r. ⌜ now r ≡ spelled (rowsOf n d majority (policyOf n f (own .0) d w majority size inflight models alive (now (initial .entry)) (now (table .entry)) adaptive balanced) (rowsIn (now (initial .entry))) (rowsIn (now (table .entry)))) ⌝ }
 {
     let choice = pick_assignment_policy(
         n,
@@ -131,7 +132,7 @@ pub fn pick_assignment_policy_rows<'a>(
     rows_of(n, d, majority, choice, initial, table)
 }
 
-// The rows of a choice. A part: the table has the count.
+// The rows of a choice. A part: the tables have them.
 pub fn rows_of<'a>(
     n: usize,
     d: usize,
@@ -140,17 +141,24 @@ pub fn rows_of<'a>(
     initial: &'a [u64],
     table: &'a [u64],
 ) -> &'a [u64]
-    requires { ⌜ Holds n d majority (chosen choice) (length (now table)) ⌝ }
-    ensures { λ r. ⌜ now r ≡ rowsOf n d majority (chosen choice) (now (initial .entry)) (now (table .entry)) ⌝ }
+    requires { ⌜ Holds n d majority (chosen choice) (length (now initial)) (length (now table)) ⌝ }
+    ensures { λ r. ⌜ now r ≡ spelled (rowsOf n d majority (chosen choice) (rowsIn (now (initial .entry))) (rowsIn (now (table .entry)))) ⌝ }
 {
     match choice {
         Policy::Refused(_) => &initial[..0],
         Policy::Initial => initial,
-        Policy::Balanced(shards) => {
-            let from = (shards - d / majority) * n;
-            &table[from..from + n]
-        }
+        Policy::Balanced(shards) => rows_from(n, (shards - d / majority) * n, table),
     }
+}
+
+// The n rows from the row k on, of four words each. A part: the table has them, and is small.
+fn rows_from<'a>(n: usize, k: usize, table: &'a [u64]) -> &'a [u64]
+    requires { ⌜ ((k + n) * 4 ≤ length (now table)) × (k + n ≤ 4096) ⌝ }
+    ensures { λ r. ⌜ now r ≡ take (n * 4) (drop (k * 4) (now (table .entry))) ⌝ }
+{
+    let from = k * 4;
+    let words = n * 4;
+    &table[from..from + words]
 }
 
 fn floor_refusal(n: usize, f: usize, d: usize, majority: usize, alive: u64) -> u8
@@ -225,10 +233,10 @@ fn policy_refusal(
     if !refusals::are_rows(w, table) {
         return refusals::MASK;
     }
-    if initial.len() != n {
+    if !refusals::is_table(n, initial.len()) {
         return refusals::TABLE;
     }
-    if !is_table(n, d, majority, table.len()) {
+    if !is_balanced_table(n, d, majority, table.len()) {
         return refusals::TABLE;
     }
     0
@@ -250,18 +258,18 @@ fn peers_fit(n: usize, own: ReplicaId, inflight: [u64; 16]) -> bool
     true
 }
 
-// Whether a balanced table has that many rows: n for each count, or none. A part: the numbers have been tested.
-fn is_table(n: usize, d: usize, majority: usize, len: usize) -> bool
-    requires { ⌜ (n ≤ 16) × (d ≤ 64) × (0 < majority) ⌝ }
-    ensures { λ r. ⌜ r ≡ isTable n d majority len ⌝ }
+// Whether a balanced table has that many words: those of n rows for each count, or none. A part: the numbers have been tested.
+fn is_balanced_table(n: usize, d: usize, majority: usize, len: usize) -> bool
+    requires { ⌜ (n ≤ 16) × (d ≤ mostShards) × (0 < majority) ⌝ }
+    ensures { λ r. ⌜ r ≡ isBalancedTable n d majority len ⌝ }
 {
     if len == 0 {
         return true;
     }
-    len == n * (d - d / majority + 1)
+    refusals::is_table(n * (d - d / majority + 1), len)
 }
 
-// Whether a balanced table of that many rows has the count. A part: the majority has been tested.
+// Whether a balanced table of that many words has the count. A part: the majority has been tested.
 fn has_count(d: usize, majority: usize, len: usize, shards: usize) -> bool
     requires { ⌜ 0 < majority ⌝ }
     ensures { λ r. ⌜ r ≡ hasCount d majority len shards ⌝ }
@@ -284,7 +292,7 @@ fn larger(a: usize, b: usize) -> usize
 // The fewest shards a replica: with many replicas alive any assignment works, with too few full copies are the most careful. A part: the numbers have been
 // tested.
 fn floor_of(f: usize, d: usize, majority: usize, alive: usize) -> usize
-    requires { ⌜ (f ≤ 16) × (d ≤ 64) × (0 < majority) × (majority ≤ 16) ⌝ }
+    requires { ⌜ (f ≤ 16) × (d ≤ mostShards) × (0 < majority) × (majority ≤ 16) ⌝ }
     ensures { λ r. ⌜ r ≡ floorOf f d majority alive ⌝ }
 {
     let most = majority + f + 1;
@@ -308,7 +316,7 @@ fn best_shards(
     initial: &[u64],
     adaptive: bool,
 ) -> usize
-    requires { ⌜ (0 < n) × (n ≤ 16) × (f < n) × (d ≤ 64) × (0 < d) × (0 < majority) × (majority ≤ n) × (d % majority ≡ 0) × (size ≤ 2 ^ 30) × (length (now initial) ≡ n) ⌝ }
+    requires { ⌜ (0 < n) × (n ≤ 16) × (f < n) × (d ≤ mostShards) × (0 < d) × (0 < majority) × (majority ≤ n) × (d % majority ≡ 0) × (size ≤ 2 ^ 30) × (length (now initial) ≡ n * 4) ⌝ }
     requires { ⌜ InFlight n (own .0) (inFlight inflight) ⌝ }
     ensures { λ r. ⌜ r ≡ bestShards n f (own .0) d majority size inflight models (now (initial .entry)) adaptive ⌝ }
 {
@@ -316,5 +324,5 @@ fn best_shards(
         let i = steps::best_step(n, f, own, d, majority, size, inflight, models);
         return (i + 1) * (d / majority);
     }
-    bitmap::count(initial[0])
+    rows::count(rows::row_in(initial, 0))
 }

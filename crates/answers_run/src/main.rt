@@ -14,6 +14,7 @@ fn main() {
     file(replay::FLOOR, b"floor");
     file(replay::POLICY, b"policy");
     file(replay::INIT, b"init");
+    file(replay::BASE_INIT, b"base_init");
     file(replay::GOSSIP, b"gossip");
     file(replay::TALLY, b"tally");
 }

@@ -2,9 +2,11 @@
 // the format.
 ghost use mathlib.Core.Path.{_≡_};
 ghost use Rattle.tally.specs.Tally.{told};
+ghost use Rattle.rows.specs.Row.{rowOf};
 ghost use Rattle.c_types.specs.TallyThroughC.{answerThrough, leftThrough};
 use c_types::Reply;
 use c_types::Tally;
+use rows::Row;
 
 // The entries, by number.
 pub const PROFILE: u8 = 0;
@@ -34,6 +36,9 @@ pub const INIT: u8 = 11;
 pub const GOSSIP: u8 = 12;
 
 pub const TALLY: u8 = 13;
+
+// Layout texts that were read while a row was one word.
+pub const BASE_INIT: u8 = 14;
 
 // The most numbers of a line, and the most bytes, loads or floats.
 const MOST_NUMBERS: usize = 512;
@@ -108,6 +113,7 @@ fn elements(entry: u8, w: &[u64]) -> &[u64] {
         PLAN => stored::slice(stored::after(w, 9)),
         POLICY => stored::slice(stored::after(w, 9)),
         INIT => stored::slice(stored::after(w, 3)),
+        BASE_INIT => stored::slice(stored::after(w, 3)),
         _ => stored::first(w, 0),
     }
 }
@@ -147,7 +153,8 @@ fn words(entry: u8, w: &[u64]) -> usize {
             0,
         ),
         INIT => stored::number(stored::behind(stored::after(w, 3)), 0),
-        GOSSIP => stored::number(stored::behind(stored::after(w, 6)), 1),
+        GOSSIP => stored::number(stored::behind(stored::after(w, 9)), 1),
+        BASE_INIT => four_times(stored::number(w, 0)),
         _ => 0,
     }
 }
@@ -175,6 +182,7 @@ fn is_entry(
         INIT => is_init(w, text, lent),
         GOSSIP => is_gossip(w, lent),
         TALLY => is_tally(w),
+        BASE_INIT => is_base_init(w, text, lent),
         _ => false,
     }
 }
@@ -381,8 +389,24 @@ fn is_init(w: &[u64], text: &[u8], rows: &mut [u64]) -> bool {
     stored::same(rows, stored::slice(stored::after(c, 3)))
 }
 
+// The rows of the line have one word: it is the first of the four, and the others are 0.
+fn is_base_init(w: &[u64], text: &[u8], rows: &mut [u64]) -> bool {
+    let c = stored::behind(stored::after(w, 3));
+    let r = callboard::callboard_parse_init_assignment(
+        stored::number(w, 0),
+        stored::number(w, 1),
+        stored::number(w, 2),
+        text,
+        rows,
+    );
+    if !stored::is_answer(r, stored::after(c, 1)) {
+        return false;
+    }
+    stored::same_first(rows, stored::slice(stored::after(c, 3)))
+}
+
 fn is_gossip(w: &[u64], exclusions: &mut [u64]) -> bool {
-    let b = stored::after(w, 6);
+    let b = stored::after(w, 9);
     let c = stored::behind(b);
     let r = callboard::callboard_gossip_targets_excl(
         stored::number(w, 0),
@@ -390,7 +414,7 @@ fn is_gossip(w: &[u64], exclusions: &mut [u64]) -> bool {
         stored::number(w, 2),
         stored::number(w, 3),
         stored::number(w, 4),
-        stored::at(w, 5),
+        stored::row(stored::after(w, 5)),
         stored::slice(b),
         stored::at(c, 0),
         exclusions,
@@ -455,7 +479,7 @@ fn replies(opened: Tally, count: u64, w: &[u64]) -> bool {
 
 fn reply(t: Tally, w: &[u64], from: usize) -> Turn {
     let b = stored::after(w, from);
-    let c = stored::after(b, 5);
+    let c = stored::after(b, 8);
     let owed = stored::behind(c);
     let r = accept(
         t,
@@ -463,7 +487,7 @@ fn reply(t: Tally, w: &[u64], from: usize) -> Turn {
         stored::at(b, 1),
         stored::at(b, 2),
         stored::at(b, 3),
-        stored::at(b, 4),
+        stored::row(stored::after(b, 4)),
         stored::slice(c),
     );
     let said = r.reply;
@@ -482,11 +506,11 @@ fn accept(
     ballot: u64,
     high: u64,
     low: u64,
-    row: u64,
+    row: Row,
     faults: &[u64],
 ) -> Accepted
-    ensures { λ r. ⌜ (r .reply ≡ answerThrough t (told source ballot high low row (now (faults .entry))))
-        × (r .tally ≡ leftThrough t (told source ballot high low row (now (faults .entry)))) ⌝ }
+    ensures { λ r. ⌜ (r .reply ≡ answerThrough t (told source ballot high low (rowOf row) (now (faults .entry))))
+        × (r .tally ≡ leftThrough t (told source ballot high low (rowOf row) (now (faults .entry)))) ⌝ }
 {
     let mut u = t;
     let a = callboard::callboard_accept_reply(&mut u, source, ballot, high, low, row, faults);
@@ -495,11 +519,16 @@ fn accept(
 
 // Where the reply after the one at `from` stands, in a tally of n replicas.
 fn next(w: &[u64], from: usize, n: usize) -> usize {
-    let faults = stored::number(stored::after(w, from), 5);
+    let faults = stored::number(stored::after(w, from), 8);
     std::num::wrapping_add_usize(
-        std::num::wrapping_add_usize(from, 10),
-        std::num::wrapping_add_usize(faults, n),
+        std::num::wrapping_add_usize(from, 13),
+        std::num::wrapping_add_usize(faults, four_times(n)),
     )
+}
+
+fn four_times(n: usize) -> usize {
+    let two = std::num::wrapping_add_usize(n, n);
+    std::num::wrapping_add_usize(two, two)
 }
 
 // Whether the tally is as w says from 2 on: those heard, the flag, and the rows of its replicas.
@@ -514,11 +543,11 @@ fn is_left(t: Tally, w: &[u64]) -> bool {
     same_rows(rows, t.population, stored::after(w, 4))
 }
 
-// The first n of 16 rows.
-fn same_rows(rows: [u64; 16], n: usize, owed: &[u64]) -> bool {
+// The first n of 16 rows, four words a row.
+fn same_rows(rows: [u64; 64], n: usize, owed: &[u64]) -> bool {
     let mut i = 0;
-    while i < 16 {
-        if i < n {
+    while i < 64 {
+        if i / 4 < n {
             if rows[i] != stored::at(owed, i) {
                 return false;
             }

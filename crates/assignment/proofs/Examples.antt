@@ -2,13 +2,14 @@
 use mathlib.Core.Path.{_≡_, refl}
 use mathlib.Core.List.{List, [], _∷_, map}
 use mathlib.Core.Option.{Option, none, some}
-use Prim.Native.Nat.{ℕ}
-use lib.ListN.{length}
+use Prim.Native.Nat.{ℕ, _*_}
+use lib.ListN.{length, replicate}
 use lib.Ieee.{binary64, add, mul, div, ofInt, ofBits, toBits, le}
 use Rattle.lists.specs.Below.{someBelow, thoseBelow, runFrom, eachBelow}
 use Rattle.lists.specs.Sort.{lowerBy, upperBy}
 use Rattle.bitmap.specs.Mask.{count, maskBelow, gather}
 use Rattle.floats.specs.Floats.{isFinite, totalLe}
+use Rattle.rows.specs.Row.{value, wordsOf, spelled}
 use Rattle.refusals.specs.Outcome.{Outcome, refused, accepted}
 use Rattle.refusals.specs.Limits.{peersFit, isPopulation, isShards, isQuorum, isFaultList}
 use Rattle.coverage.specs.Coverage.{unionOf, leaves, isCovered, commits}
@@ -80,7 +81,7 @@ record Line : Type 0 where
   says : Told
 
 line : ℕ → ℕ → ℕ → ℕ → TotalShards → ℕ → List PeerRecord → ℕ → List ℕ → ℕ → Told → Line
-line n own quorum d total size peers penalty faults rows says = record { n = n; own = own; quorum = quorum; d = d; total = total; size = size; peers = peers; penalty = penalty; faults = faults; rows = rows; says = says }
+line n own quorum d total size peers penalty faults rows says = record { n = n; own = own; quorum = quorum; d = d; total = total; size = size; peers = peers; penalty = penalty; faults = faults; rows = rows * 4; says = says }
 
 -- n, our own number, quorum, d, total, size, peers, penalty, fault list, length of the lent table; what it comes to
 sheet : List Line
@@ -141,7 +142,7 @@ sheet =
     ∷ line 3 3 2 2 (AtMost 3) 2097152 both 0 ones 3 (refused 3)
     ∷ line 3 0 2 0 (AtMost 3) 2097152 both 0 ones 3 (refused 4)
     ∷ line 3 0 2 4 (AtMost 3) 2097152 both 0 ones 3 (refused 4)
-    ∷ line 3 0 2 2 (Exactly 65) 2097152 both 0 ones 3 (refused 4)
+    ∷ line 3 0 2 2 (Exactly 256) 2097152 both 0 ones 3 (refused 4)
     ∷ line 3 0 0 2 (AtMost 3) 2097152 both 0 ones 3 (refused 5)
     ∷ line 3 0 4 2 (AtMost 3) 2097152 both 0 ones 3 (refused 5)
     ∷ line 3 0 2 2 (AtMost 3) 1073741824 both 0 ones 3 (plan 0x4080_0800_0000_0000 2 (3 ∷ 1 ∷ 2 ∷ []))
@@ -167,11 +168,11 @@ picks = refl
 -- the lent table at exit, of a quorum and the peers: a plan's rows; and what it held, where both peers are silent, and where the quorum is
 -- refused
 abbrev table : ℕ → List PeerRecord → List ℕ
-table quorum peers = planned (pickOf 3 0 quorum 2 (AtMost 3) 2097152 peers (ofBits binary64 0) ones 3) (9 ∷ 9 ∷ 9 ∷ [])
+table quorum peers = planned (pickOf 3 0 quorum 2 (AtMost 3) 2097152 peers (ofBits binary64 0) ones 12) (replicate 12 9)
 
 tables : (table 2 both ∷ table 2 (silent ∷ silent ∷ silent ∷ []) ∷ table 4 both ∷ [])
-    ≡ ((3 ∷ 1 ∷ 2 ∷ []) ∷ (9 ∷ 9 ∷ 9 ∷ []) ∷ (9 ∷ 9 ∷ 9 ∷ []) ∷ [])
-unfolding pickOf pickRefusal peersFit someBelow isPopulation isShards isQuorum isFaultList planOf firstTime commitsAt answeredAt loadsAt runAt runFrom maskBelow eachBelow loadsFor shardLength timesOf timeAt replyTime settled predictOf isFinite add mul div ofInt ofBits toBits le totalLe layoutCommits commits isCovered leaves unionOf count widthOf rowFor rowsOf gather trimmed trimmedIn tried keeps trimOrder peersOf thoseBelow slower lowerBy upperBy
+    ≡ ((3 ∷ 0 ∷ 0 ∷ 0 ∷ 1 ∷ 0 ∷ 0 ∷ 0 ∷ 2 ∷ 0 ∷ 0 ∷ 0 ∷ []) ∷ replicate 12 9 ∷ replicate 12 9 ∷ [])
+unfolding wordsOf spelled pickOf pickRefusal peersFit someBelow isPopulation isShards isQuorum isFaultList planOf firstTime commitsAt answeredAt loadsAt runAt runFrom maskBelow eachBelow loadsFor shardLength timesOf timeAt replyTime settled predictOf isFinite add mul div ofInt ofBits toBits le totalLe layoutCommits commits isCovered leaves unionOf count widthOf rowFor rowsOf gather trimmed trimmedIn tried keeps trimOrder peersOf thoseBelow slower lowerBy upperBy
 tables = refl
 
 -- ---- `full_copies`
@@ -184,7 +185,7 @@ record Copy : Type 0 where
   leaves : List ℕ
 
 copy : ℕ → ℕ → TotalShards → List ℕ → Outcome ℕ → List ℕ → Copy
-copy n d total rows says leaves = record { n = n; d = d; total = total; rows = rows; says = says; leaves = leaves }
+copy n d total rows says leaves = record { n = n; d = d; total = total; rows = spelled rows; says = says; leaves = spelled leaves }
 
 -- n, d, total, the lent table; what it comes to, and the table after it
 copies : List Copy
@@ -199,7 +200,7 @@ copies =
     ∷ copy 17 2 (AtMost 3) (9 ∷ 9 ∷ 9 ∷ []) (refused 1) (9 ∷ 9 ∷ 9 ∷ [])
     ∷ copy 3 0 (AtMost 3) (9 ∷ 9 ∷ 9 ∷ []) (refused 4) (9 ∷ 9 ∷ 9 ∷ [])
     ∷ copy 3 4 (Exactly 3) (9 ∷ 9 ∷ 9 ∷ []) (refused 4) (9 ∷ 9 ∷ 9 ∷ [])
-    ∷ copy 3 2 (AtMost 65) (9 ∷ 9 ∷ 9 ∷ []) (refused 4) (9 ∷ 9 ∷ 9 ∷ [])
+    ∷ copy 3 2 (AtMost 256) (9 ∷ 9 ∷ 9 ∷ []) (refused 4) (9 ∷ 9 ∷ 9 ∷ [])
     ∷ copy 3 2 (AtMost 3) (9 ∷ 9 ∷ []) (refused 17) (9 ∷ 9 ∷ [])
     -- two cases hold: the first refuses
     ∷ copy 17 4 (AtMost 3) (9 ∷ 9 ∷ 9 ∷ []) (refused 1) (9 ∷ 9 ∷ 9 ∷ [])
@@ -207,5 +208,5 @@ copies =
     ∷ []
 
 copied : map {B = Outcome ℕ × List ℕ} (λ (l : Copy). (fullCopiesOf (l .n) (l .d) (l .total) (length (l .rows)), copiesWritten (l .n) (l .d) (l .total) (l .rows))) copies ≡ map {B = Outcome ℕ × List ℕ} (λ (l : Copy). (l .says, l .leaves)) copies
-unfolding copy copies fullCopiesOf copiesWritten copiesRefusal isPopulation isShards gather
+unfolding value wordsOf spelled copy copies fullCopiesOf copiesWritten copiesRefusal isPopulation isShards gather
 copied = refl

@@ -6,26 +6,28 @@ use mathlib.Core.Logic.{_↔_}
 use mathlib.Core.Bool.{Bool, true, false, cond}
 use mathlib.Core.List.{List, [], List·Memᴰ}
 use mathlib.Core.Option.{Option, none, some}
-use Prim.Native.Nat.{ℕ, zero, suc, _^_, _≤_, _<_}
-use native.Mathlib.Nat.{le-refl}
+use Prim.Native.Nat.{ℕ, zero, suc, _*_, _^_, _≤_, _<_}
+use native.Mathlib.Nat.{le-refl, lt-of-lt-of-le}
 use native.Mathlib.Decide.{decLt}
 use native.Mathlib.Omega.{arith}
 use lib.Ieee.{Float}
-use lib.ListN.{length, getD, replicate, length-replicate, getD-replicate}
-use lib.Pow.{pow-mono, ones-lt}
+use lib.ListN.{length, getD, replicate, length-replicate, getD-replicate, List·getD-eq-default}
+use lib.Pow.{pow-pos, pow-mono, ones-lt}
 use lib.Seq.{ext-getD}
 use borrow.Author.Tests.{eqb-true, eq-eqb, leb-true, le-leb, ltb-true, lt-ltb, not-false}
 use Rattle.lists.specs.All.{AllOf}
-use Rattle.lists.specs.AllLaws.{all-means}
-use Rattle.bitmap.specs.Mask.{bit, count, run, rowIn}
+use Rattle.lists.specs.AllLaws.{Each, all-means}
+use Rattle.bitmap.specs.Mask.{bit, count, run, nthRow}
 use Rattle.bitmap.specs.MaskLaws.{below-means}
 use Rattle.bitmap.specs.Members.{Many, many-map}
 use Rattle.bitmap.specs.RunLaws.{run-all}
 use Rattle.bitmap.specs.RunCounts.{run-count}
+use Rattle.rows.specs.Row.{rowsIn, spelled, rowIn}
+use Rattle.rows.specs.TableLaws.{Rows, spelled-length, spelled-row, spelled-rows}
 use Rattle.refusals.specs.Numbers.{TRIMMED}
 use Rattle.refusals.specs.FirstLaws.{none-holds}
 use Rattle.refusals.specs.Limits.{isRow}
-use Rattle.refusals.specs.LimitLaws.{AreRows, population-means, shards-means, quorum-means, fault-list-means, peers-fit-means}
+use Rattle.refusals.specs.LimitLaws.{AreRows, rows-small, population-means, shards-means, quorum-means, fault-list-means, peers-fit-means}
 use Rattle.refusals.specs.Outcome.{Outcome, refused, accepted, outcome}
 use Rattle.refusals.specs.OutcomeLaws.{checked-means, accepted-means}
 use Rattle.coverage.specs.Coverage.{coversOf}
@@ -57,7 +59,7 @@ module _ (n own quorum d : ℕ) (total : TotalShards) (size : ℕ) (peers : List
     pub small : size ≤ 2 ^ 30
     pub in-flight : PeersInBounds n own peers
     pub list : FaultList n faults
-    pub table : rows ≡ n
+    pub table : rows ≡ n * 4
 
   pub pick-sound : (pickRefusal n own quorum d total size peers faults rows ≡ 0) ↔ Sound
   unfolding pickRefusal
@@ -72,7 +74,7 @@ module _ (n own quorum d : ℕ) (total : TotalShards) (size : ℕ) (peers : List
           small = leb-true size (2 ^ 30) (not-false _ (h .1 .1 .1 .1 .0));
           in-flight = peers-fit-means n own (inFlight peers) .0 (not-false _ (h .1 .1 .1 .1 .1 .0));
           list = fault-list-means n faults .0 (not-false _ (h .1 .1 .1 .1 .1 .1 .0));
-          table = eqb-true rows n (not-false _ (h .1 .1 .1 .1 .1 .1 .1 .0));
+          table = eqb-true rows (n * 4) (not-false _ (h .1 .1 .1 .1 .1 .1 .1 .0));
         },
     λ s.
         simp (
@@ -83,7 +85,7 @@ module _ (n own quorum d : ℕ) (total : TotalShards) (size : ℕ) (peers : List
           le-leb size (2 ^ 30) (s .small),
           peers-fit-means n own (inFlight peers) .1 (s .in-flight),
           fault-list-means n faults .1 (s .list),
-          eq-eqb rows n (s .table),
+          eq-eqb rows (n * 4) (s .table),
         ),
   )
 
@@ -92,7 +94,7 @@ module _ (n d : ℕ) (total : TotalShards) (rows : ℕ) where
   pub record SoundCopies : Type 0 where
     pub population : (1 ≤ n) × (n ≤ 16)
     pub shards : Fit d (bound total)
-    pub table : rows ≡ n
+    pub table : rows ≡ n * 4
 
   pub copies-sound : (copiesRefusal n d total rows ≡ 0) ↔ SoundCopies
   unfolding copiesRefusal
@@ -102,9 +104,9 @@ module _ (n d : ℕ) (total : TotalShards) (rows : ℕ) where
         record {
           population = population-means n .0 (not-false _ (h .0));
           shards = shards-means d (bound total) .0 (not-false _ (h .1 .0));
-          table = eqb-true rows n (not-false _ (h .1 .1 .0));
+          table = eqb-true rows (n * 4) (not-false _ (h .1 .1 .0));
         },
-    λ s. simp (population-means n .1 (s .population), shards-means d (bound total) .1 (s .shards), eq-eqb rows n (s .table)),
+    λ s. simp (population-means n .1 (s .population), shards-means d (bound total) .1 (s .shards), eq-eqb rows (n * 4) (s .table)),
   )
 
 -- ---- the plan of a table of times
@@ -228,7 +230,7 @@ module _ (n own quorum d : ℕ) (total : TotalShards) (size : ℕ) (peers : List
         rw (r .1 .width, r .1 .rows) (rows-length d total loads ∙ long, rows-below d total loads fit)
 
     -- our own row is the shards 0 to d - 1
-    pub plan-own : rowIn (p .rows) own ≡ run 0 d
+    pub plan-own : nthRow (p .rows) own ≡ run 0 d
     plan-own =
         let r = plan-means p .0 e in
         let loads = loadsFor n own quorum d total faults times (p .time) in
@@ -238,11 +240,11 @@ module _ (n own quorum d : ℕ) (total : TotalShards) (size : ℕ) (peers : List
         rw (r .1 .rows) (rows-full d total loads own (omega arith) (omega arith))
 
     -- a quorum of different replicas answers by its time, and without any one listed set there are d different shards, each in the row of one of them outside it
-    pub plan-survives : Many quorum (λ s. bit (answered p) s ≡ 1) × Survives n d (answered p) (rowIn (p .rows)) faults
+    pub plan-survives : Many quorum (λ s. bit (answered p) s ≡ 1) × Survives n d (answered p) (nthRow (p .rows)) faults
     unfolding layoutCommits
     plan-survives =
         let h = plan-means p .0 e .1 in
-        commits-means n quorum d (answered p) (rowIn (p .rows)) faults .0 (rw (h .rows) (h .commits))
+        commits-means n quorum d (answered p) (nthRow (p .rows)) faults .0 (rw (h .rows) (h .commits))
 
     -- they are our own, or reply by its time with no shard
     pub plan-quorum : Many quorum (λ s. (s < n) × Answering own d times (p .time) s)
@@ -258,26 +260,27 @@ module _ (n own quorum d : ℕ) (total : TotalShards) (size : ℕ) (peers : List
                 absurd (omega arith)
 
     -- so `covers` takes the plan, and says yes to those that answer
-    pub plan-covers : coversOf n d (p .width) (answered p) (p .rows) faults ≡ accepted true
+    pub plan-covers : coversOf n d (p .width) (answered p) (spelled (p .rows)) faults ≡ accepted true
     plan-covers =
         let s = pick-sound n own quorum d total size peers faults rows .0 (plan-means p .0 e .0) in
         let r = plan-are-rows in
-        covers-means n d (p .width) (answered p) (p .rows) faults .1 (
-          covers-sound n d (p .width) (answered p) (p .rows) faults .1
+        let small : Rows (p .rows) = rows-small n (p .width) (p .rows) r (plan-fits .2) in
+        covers-means n d (p .width) (answered p) (spelled (p .rows)) faults .1 (
+          covers-sound n d (p .width) (answered p) (spelled (p .rows)) faults .1
               (record {
                 population = s .population;
                 shards = plan-fits;
-                each-row = all-means (isRow (p .width)) 0 (p .rows) .0 (r .1);
+                each-row = subst (Each (isRow (p .width)) 0) (sym (spelled-rows (p .rows) small)) (all-means (isRow (p .width)) 0 (p .rows) .0 (r .1));
                 mask = answered-below own d times (p .time) n;
-                table = r .0;
+                table = spelled-length (p .rows) ∙ ap (λ (k : ℕ). k * 4) (r .0);
                 list = s .list;
               }),
-          plan-survives .1,
+          subst (λ (row : ℕ → ℕ). Survives n d (answered p) row faults) (λ i s. sym (spelled-row (p .rows) small s) i) (plan-survives .1),
         )
 
--- ---- the lent table at exit: the rows of the plan where there is one, and else what it held
+-- ---- the lent table at exit: the rows of the plan where there is one, four words a row, and else what it held
 module _ (o : Outcome (Option Plan)) (before : List ℕ) where
-  pub planned-rows : (p : Plan) → o ≡ accepted (some p) → planned o before ≡ p .rows
+  pub planned-rows : (p : Plan) → o ≡ accepted (some p) → planned o before ≡ spelled (p .rows)
   planned-rows p e = ap (λ (q : Outcome (Option Plan)). planned q before) e
 
   pub planned-none : o ≡ accepted none → planned o before ≡ before
@@ -308,22 +311,29 @@ copies-fit d (AtMost w) h = (h .0, omega arith, omega arith)
 
 -- of a table that is not refused
 module _ (n d : ℕ) (total : TotalShards) (rows : List ℕ) (e : copiesRefusal n d total (length rows) ≡ 0) where
+  copies-small : Rows (replicate n (run 0 d))
+  copies-small i = go (decLt i n) (copies-sound n d total (length rows) .0 e .shards)
+    where
+      go : Dec (i < n) → Fit d (bound total) → getD (replicate n (run 0 d)) i 0 < 2 ^ 256
+      go (yes l) h = rw (getD-replicate n i (run 0 d) 0 l, run-all) (lt-of-lt-of-le (ones-lt d) (pow-mono {i = d} {j = 256} (omega arith)))
+      go (no l) h = rw (List·getD-eq-default (replicate n (run 0 d)) 0 {n = i} (omega (arith, length-replicate n (run 0 d)))) (pow-pos 256)
+
   -- each replica has the shards 0 to d - 1
   pub copies-at : (s : ℕ) → s < n → rowIn (copiesWritten n d total rows) s ≡ run 0 d
   unfolding copiesWritten
-  copies-at s l = rw e (getD-replicate n s (run 0 d) 0 l)
+  copies-at s l = rw e (spelled-row (replicate n (run 0 d)) copies-small s ∙ getD-replicate n s (run 0 d) 0 l)
 
   -- and so d different ones
   pub copies-count : (s : ℕ) → s < n → count (rowIn (copiesWritten n d total rows) s) ≡ d
   copies-count s l = ap count (copies-at s l) ∙ run-count 0 d
 
-  pub copies-are-rows : AreRows n (copiesWidth d total) (copiesWritten n d total rows)
+  pub copies-are-rows : AreRows n (copiesWidth d total) (rowsIn (copiesWritten n d total rows))
   unfolding copiesWritten
   copies-are-rows =
       let w = copiesWidth d total in
       let h = copies-fit d total (copies-sound n d total (length rows) .0 e .shards) in
       let row : isRow w (run 0 d) ≡ true = lt-ltb (run 0 d) (2 ^ w) (rw run-all (omega (arith, ones-lt d, pow-mono (h .1)))) in
-      rw e (
+      rw (e, spelled-rows (replicate n (run 0 d)) copies-small) (
         length-replicate n (run 0 d),
         all-means (isRow w) 0 (replicate n (run 0 d)) .1 (λ s l. ap (isRow w) (getD-replicate n s (run 0 d) 0 (rw length-replicate at l)) ∙ row),
       )

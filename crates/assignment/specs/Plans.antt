@@ -7,10 +7,11 @@ use lib.Dec.{eqb}
 use lib.Ieee.{Float}
 use lib.ListN.{length, getD, replicate}
 use Rattle.bitmap.specs.Mask.{run}
+use Rattle.rows.specs.Row.{rowsIn, spelled}
 use Rattle.refusals.specs.Numbers.{POPULATION, REPLICA, SHARDS, QUORUM, BYTES, TABLE, TRIMMED}
 use Rattle.refusals.specs.First.{Case, unless, firstOf}
 use Rattle.refusals.specs.Outcome.{Outcome, refused, accepted, checked, outcome, written}
-use Rattle.refusals.specs.Limits.{isPopulation, isReplica, isShards, isQuorum, isSize, peersFit, isFaultList}
+use Rattle.refusals.specs.Limits.{isPopulation, isReplica, isShards, isQuorum, isSize, peersFit, isTable, isFaultList}
 use Rattle.layout.specs.declared.TotalShards.{TotalShards}
 use Rattle.layout.specs.declared.TotalShards.the-variants.{Exactly, AtMost}
 use Rattle.layout.specs.Layout.{bound, widthOf, rowsOf, layoutCommits}
@@ -67,7 +68,7 @@ pickInputCases n own quorum d total size peers =
 
 -- of the fault list and the lent table of so many rows
 abbrev pub pickTableCases : ℕ → List ℕ → ℕ → List Case
-pickTableCases n faults rows = unless (isFaultList n faults) TABLE ∷ unless (eqb rows n) TABLE ∷ []
+pickTableCases n faults rows = unless (isFaultList n faults) TABLE ∷ unless (isTable n rows) TABLE ∷ []
 
 abbrev pub pickCases : ℕ → ℕ → ℕ → ℕ → TotalShards → ℕ → List PeerRecord → List ℕ → ℕ → List Case
 pickCases n own quorum d total size peers faults rows = pickInputCases n own quorum d total size peers ++ pickTableCases n faults rows
@@ -79,7 +80,7 @@ pickRefusal n own quorum d total size peers faults rows = firstOf (pickCases n o
 abbrev pub picked : Pick → List ℕ → Outcome (Option Plan)
 picked (Refused k) rows = refused k
 picked NoPlan rows = accepted none
-picked (Planned t w) rows = accepted (some (record { time = t; width = w; rows = rows }))
+picked (Planned t w) rows = accepted (some (record { time = t; width = w; rows = rowsIn rows }))
 
 unfoldable pub pickOf : ℕ → ℕ → ℕ → ℕ → TotalShards → ℕ → List PeerRecord → Float → List ℕ → ℕ → Outcome (Option Plan)
 pickOf n own quorum d total size peers penalty faults rows =
@@ -90,12 +91,12 @@ pickOf n own quorum d total size peers penalty faults rows =
 abbrev pub planned : Outcome (Option Plan) → List ℕ → List ℕ
 planned (refused k) before = before
 planned (accepted none) before = before
-planned (accepted (some p)) before = p .rows
+planned (accepted (some p)) before = spelled (p .rows)
 
 -- ---- full copies
 
 abbrev pub copiesCases : ℕ → ℕ → TotalShards → ℕ → List Case
-copiesCases n d total rows = unless (isPopulation n) POPULATION ∷ unless (isShards d (bound total)) SHARDS ∷ unless (eqb rows n) TABLE ∷ []
+copiesCases n d total rows = unless (isPopulation n) POPULATION ∷ unless (isShards d (bound total)) SHARDS ∷ unless (isTable n rows) TABLE ∷ []
 
 unfoldable pub copiesRefusal : ℕ → ℕ → TotalShards → ℕ → ℕ
 copiesRefusal n d total rows = firstOf (copiesCases n d total rows)
@@ -110,4 +111,4 @@ fullCopiesOf n d total rows = outcome (copiesRefusal n d total rows) (copiesWidt
 
 -- all data shards for each replica
 unfoldable pub copiesWritten : ℕ → ℕ → TotalShards → List ℕ → List ℕ
-copiesWritten n d total rows = written (copiesRefusal n d total (length rows)) (replicate n (run 0 d)) rows
+copiesWritten n d total rows = written (copiesRefusal n d total (length rows)) (spelled (replicate n (run 0 d))) rows

@@ -11,10 +11,17 @@ use bitmap::ReplicaId;
 use floats::Found;
 use layout::Laid;
 use layout::TotalShards;
+use rows::ShardId;
 use times::PeerRecord;
 
-// The times of 16 replicas at the loads 0 to 64.
-const MOST_TIMES: usize = 1040;
+// So many data shards have a table of times of their own, so that a small plan does not clear the large one.
+const NARROW: usize = 64;
+
+// The times of 16 replicas at the loads 0 to that many.
+const NARROW_TIMES: usize = 1040;
+
+// At the loads 0 to the most shards.
+const MOST_TIMES: usize = 4096;
 
 // No plan is an answer of its own. A plan's rows are in the lent table.
 pub enum Pick {
@@ -44,18 +51,10 @@ pub fn pick_assignment(
     if no != 0 {
         return Pick::Refused(no);
     }
-    let mut table = [0.0f64; MOST_TIMES];
-    let m = n * (d + 1);
-    times::fill_times(
-        n,
-        own,
-        d,
-        times::shard_length(size, d),
-        peers,
-        penalty,
-        &mut table[..m],
-    );
-    plan(n, own, quorum, d, total, faults, &table[..m], rows)
+    if d <= NARROW {
+        return pick_narrow(n, own, quorum, d, total, size, peers, penalty, faults, rows);
+    }
+    pick_wide(n, own, quorum, d, total, size, peers, penalty, faults, rows)
 }
 
 // Full copies for everyone: the width d under a ceiling, else the exact one.
@@ -67,7 +66,7 @@ pub fn full_copies(n: usize, d: usize, total: TotalShards, rows: &mut [u64]) -> 
     if no != 0 {
         return Laid::Refused(no);
     }
-    bitmap::fill(bitmap::run(0, d), rows);
+    rows::fill(rows::run(ShardId(0), d), n, rows);
     Laid::Width(copies_width(d, total))
 }
 
@@ -106,7 +105,7 @@ pub fn pick_refusal(
     if !refusals::is_fault_list(n, faults) {
         return refusals::TABLE;
     }
-    if rows != n {
+    if !refusals::is_table(n, rows) {
         return refusals::TABLE;
     }
     0
@@ -138,7 +137,7 @@ fn copies_refusal(n: usize, d: usize, total: TotalShards, rows: usize) -> u8
     if !refusals::is_shards(d, layout::bound(total)) {
         return refusals::SHARDS;
     }
-    if rows != n {
+    if !refusals::is_table(n, rows) {
         return refusals::TABLE;
     }
     0
@@ -153,6 +152,104 @@ fn copies_width(d: usize, total: TotalShards) -> usize
     }
 }
 
+// The plan by a table of times for at most NARROW data shards. A part: nothing refuses it.
+fn pick_narrow(
+    n: usize,
+    own: ReplicaId,
+    quorum: usize,
+    d: usize,
+    total: TotalShards,
+    size: u64,
+    peers: [PeerRecord; 16],
+    penalty: f64,
+    faults: &[u64],
+    rows: &mut [u64],
+) -> Pick
+    requires { ⌜ (pickRefusal n (own .0) quorum d total size peers (now faults) (length (now rows)) ≡ 0) × (d ≤ 64) ⌝ }
+    ensures answer { λ r. ⌜ picked r (now (rows .exit)) ≡ pickOf n (own .0) quorum d total size peers penalty (now (faults .entry)) (length (now (rows .entry))) ⌝ }
+    ensures words { λ r. ⌜ now (rows .exit) ≡ planned (pickOf n (own .0) quorum d total size peers penalty (now (faults .entry)) (length (now (rows .entry)))) (now (rows .entry)) ⌝ }
+{
+    let mut table = [0.0f64; NARROW_TIMES];
+    let m = n * (d + 1);
+    pick_in(
+        n,
+        own,
+        quorum,
+        d,
+        total,
+        size,
+        peers,
+        penalty,
+        faults,
+        &mut table[..m],
+        rows,
+    )
+}
+
+// The plan by a table of times for the most shards. A part: nothing refuses it.
+fn pick_wide(
+    n: usize,
+    own: ReplicaId,
+    quorum: usize,
+    d: usize,
+    total: TotalShards,
+    size: u64,
+    peers: [PeerRecord; 16],
+    penalty: f64,
+    faults: &[u64],
+    rows: &mut [u64],
+) -> Pick
+    requires { ⌜ pickRefusal n (own .0) quorum d total size peers (now faults) (length (now rows)) ≡ 0 ⌝ }
+    ensures answer { λ r. ⌜ picked r (now (rows .exit)) ≡ pickOf n (own .0) quorum d total size peers penalty (now (faults .entry)) (length (now (rows .entry))) ⌝ }
+    ensures words { λ r. ⌜ now (rows .exit) ≡ planned (pickOf n (own .0) quorum d total size peers penalty (now (faults .entry)) (length (now (rows .entry)))) (now (rows .entry)) ⌝ }
+{
+    let mut table = [0.0f64; MOST_TIMES];
+    let m = n * (d + 1);
+    pick_in(
+        n,
+        own,
+        quorum,
+        d,
+        total,
+        size,
+        peers,
+        penalty,
+        faults,
+        &mut table[..m],
+        rows,
+    )
+}
+
+// The plan, its times worked out in the table. A part: nothing refuses it, and the table is that of n replicas.
+fn pick_in(
+    n: usize,
+    own: ReplicaId,
+    quorum: usize,
+    d: usize,
+    total: TotalShards,
+    size: u64,
+    peers: [PeerRecord; 16],
+    penalty: f64,
+    faults: &[u64],
+    table: &mut [f64],
+    rows: &mut [u64],
+) -> Pick
+    requires { ⌜ (pickRefusal n (own .0) quorum d total size peers (now faults) (length (now rows)) ≡ 0) × (length (now table) ≡ n * suc d) ⌝ }
+    ensures answer { λ r. ⌜ picked r (now (rows .exit)) ≡ pickOf n (own .0) quorum d total size peers penalty (now (faults .entry)) (length (now (rows .entry))) ⌝ }
+    ensures words { λ r. ⌜ now (rows .exit) ≡ planned (pickOf n (own .0) quorum d total size peers penalty (now (faults .entry)) (length (now (rows .entry)))) (now (rows .entry)) ⌝ }
+{
+    times::fill_times(
+        n,
+        own,
+        d,
+        times::shard_length(size, d),
+        peers,
+        penalty,
+        table,
+    );
+    plan(n, own, quorum, d, total, faults, table, rows)
+}
+
 // The plan of a table of times. A part: the numbers have been tested, and the table is that of n replicas.
 fn plan(
     n: usize,
@@ -164,7 +261,7 @@ fn plan(
     times: &[f64],
     rows: &mut [u64],
 ) -> Pick
-    requires { ⌜ Fit d (bound total) × (n ≤ 16) × (length (now times) ≡ n * suc d) × (length (now rows) ≡ n) ⌝ }
+    requires { ⌜ Fit d (bound total) × (n ≤ 16) × (length (now times) ≡ n * suc d) × (length (now rows) ≡ n * 4) ⌝ }
     ensures answer { λ r. ⌜ picked r (now (rows .exit)) ≡ planOf n (own .0) quorum d total (now (faults .entry)) (now (times .entry)) ⌝ }
     ensures words { λ r. ⌜ now (rows .exit) ≡ planned (planOf n (own .0) quorum d total (now (faults .entry)) (now (times .entry))) (now (rows .entry)) ⌝ }
 {
@@ -186,7 +283,7 @@ fn plan_at(
     t: f64,
     rows: &mut [u64],
 ) -> Pick
-    requires { ⌜ Fit d (bound total) × (n ≤ 16) × (length (now times) ≡ n * suc d) × (length (now rows) ≡ n) ⌝ }
+    requires { ⌜ Fit d (bound total) × (n ≤ 16) × (length (now times) ≡ n * suc d) × (length (now rows) ≡ n * 4) ⌝ }
     ensures answer { λ r. ⌜ picked r (now (rows .exit)) ≡ planAt n (own .0) quorum d total (now (faults .entry)) (now (times .entry)) (some t) ⌝ }
     ensures words { λ r. ⌜ now (rows .exit) ≡ planned (planAt n (own .0) quorum d total (now (faults .entry)) (now (times .entry)) (some t)) (now (rows .entry)) ⌝ }
 {
@@ -212,8 +309,8 @@ fn loads_for(
     ensures loads { λ r. ⌜ now (loads .exit) ≡ loadsFor n (own .0) quorum d total (now (faults .entry)) (now (times .entry)) t ⌝ }
 {
     let answered = candidates::loads_at(n, own, d, times, t, loads);
-    let mut order = [0usize; 16];
-    let count = trimming::trim_order(n, own, d, times, &mut order);
+    let order = trimming::trim_order(n, own, d, times);
+    let peers = order.peers;
     trimming::trim(
         n,
         quorum,
@@ -221,7 +318,8 @@ fn loads_for(
         total,
         answered,
         faults,
-        &order[..count],
+        peers,
+        order.count,
         loads,
     );
     answered
@@ -239,7 +337,7 @@ fn lay_out(
     loads: &[usize],
     rows: &mut [u64],
 ) -> Pick
-    requires { ⌜ Fit d (bound total) × (n ≤ 16) × (length (now loads) ≡ n) × (length (now rows) ≡ n) ⌝ }
+    requires { ⌜ Fit d (bound total) × (n ≤ 16) × (length (now loads) ≡ n) × (length (now rows) ≡ n * 4) ⌝ }
     ensures answer { λ r. ⌜ picked r (now (rows .exit)) ≡ laidOut n quorum d total (now (faults .entry)) answered t (now (loads .entry)) ⌝ }
     ensures words { λ r. ⌜ now (rows .exit) ≡ planned (laidOut n quorum d total (now (faults .entry)) answered t (now (loads .entry))) (now (rows .entry)) ⌝ }
 {

@@ -55,6 +55,6 @@ run a k = gather (λ (i : ℕ). a + i) k
 abbrev pub runModulo : ℕ → ℕ → ℕ → ℕ
 runModulo w a k = gather (λ (i : ℕ). (a + i) % w) k
 
--- the row of the replica s in a lent table of one word a replica
-abbrev pub rowIn : List ℕ → ℕ → ℕ
-rowIn rows s = getD rows s 0
+-- the row of the replica s in a list of rows; past the end there is no shard
+abbrev pub nthRow : List ℕ → ℕ → ℕ
+nthRow rows s = getD rows s 0

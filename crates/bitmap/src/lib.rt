@@ -1,4 +1,4 @@
-// Sets of shards and of replicas as masks of 64 bits: bit s stands for the shard, or the replica, s.
+// Sets of replicas as masks of 64 bits: bit s is the replica s. A word of a row of shards is such a mask too.
 ghost use mathlib.Core.Path.{_≡_};
 ghost use Prim.Native.Nat.{_+_, _<_, _≤_};
 ghost use lib.Bits.{bitOr};
@@ -8,16 +8,6 @@ ghost use Rattle.bitmap.specs.Mask.{hasBit, withBit, isBelow, count, run
 // The number of a replica. It is wide, so that a number out of range is refused and not cut.
 pub struct ReplicaId(pub usize);
 
-// The number of a shard.
-pub struct ShardId(pub usize);
-
-// Whether the shard s is in the row.
-pub fn has_shard(row: u64, s: ShardId) -> bool
-    ensures { λ r. ⌜ r ≡ hasBit row (s .0) ⌝ }
-{
-    bit_at(row, s.0)
-}
-
 // Whether the replica s is in the mask.
 pub fn has_replica(mask: u64, s: ReplicaId) -> bool
     ensures { λ r. ⌜ r ≡ hasBit mask (s .0) ⌝ }
@@ -25,15 +15,7 @@ pub fn has_replica(mask: u64, s: ReplicaId) -> bool
     bit_at(mask, s.0)
 }
 
-// The row with the shard s. A part: a word has room for shards below 64.
-pub fn with_shard(row: u64, s: ShardId) -> u64
-    requires { ⌜ s .0 < 64 ⌝ }
-    ensures { λ r. ⌜ r ≡ withBit row (s .0) ⌝ }
-{
-    with_bit(row, s.0)
-}
-
-// The mask with the replica s. A part, as with_shard.
+// The mask with the replica s. A part: a word has room for members below 64.
 pub fn with_replica(mask: u64, s: ReplicaId) -> u64
     requires { ⌜ s .0 < 64 ⌝ }
     ensures { λ r. ⌜ r ≡ withBit mask (s .0) ⌝ }
@@ -88,7 +70,7 @@ pub fn run_modulo(a: usize, k: usize, w: usize) -> u64
     run(from, w - from) | run(0, from + k - w)
 }
 
-// Makes each word of the table the same row.
+// Makes each word of the table the same.
 pub fn fill(row: u64, rows: &mut [u64])
     ensures { λ _. ⌜ now (rows .exit) ≡ replicate (length (now (rows .entry))) row ⌝ }
 {
@@ -111,7 +93,8 @@ pub fn copy(from: &[u64], to: &mut [u64])
     }
 }
 
-fn bit_at(m: u64, s: usize) -> bool
+// Whether s is a member of m, whatever its members number.
+pub fn bit_at(m: u64, s: usize) -> bool
     ensures { λ r. ⌜ r ≡ hasBit m s ⌝ }
 {
     if 64 <= s {
@@ -120,7 +103,7 @@ fn bit_at(m: u64, s: usize) -> bool
     (m >> s) % 2 == 1
 }
 
-// m with the member s, whatever its members number. A part, as with_shard.
+// m with the member s, whatever its members number. A part, as with_replica.
 pub fn with_bit(m: u64, s: usize) -> u64
     requires { ⌜ s < 64 ⌝ }
     ensures { λ r. ⌜ r ≡ withBit m s ⌝ }

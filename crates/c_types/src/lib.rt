@@ -96,7 +96,7 @@ pub struct Tally {
     pub value_low: u64,
     pub heard: u64,
     pub committed: u64,
-    pub rows: [u64; 16],
+    pub rows: [u64; 64],
 }
 
 #[repr(C)]

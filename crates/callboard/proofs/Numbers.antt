@@ -14,7 +14,7 @@ use Rattle.refusals.specs.Numbers.{TABLE}
 use Rattle.refusals.specs.First.{Case, firstOf}
 use Rattle.refusals.specs.FirstLaws.{otherwise}
 use Rattle.refusals.specs.Outcome.{Outcome, checked, outcome}
-use Rattle.refusals.specs.Limits.{isFaultList}
+use Rattle.refusals.specs.Limits.{isFaultList, isTable}
 use Rattle.layout.specs.declared.TotalShards.{TotalShards}
 use Rattle.assignment.specs.Plans.{pickInputCases, pickTableCases, pickRefusal}
 use Rattle.adaptive.specs.Policy.{policyRefusal, policyOf}
@@ -43,7 +43,7 @@ first-under m (c ∷ cs) h u =
     go false l r = r
 
 lists-past : (n : ℕ) (faults : List ℕ) (rows : ℕ) → isPast (firstOf (pickTableCases n faults rows)) ≡ true
-lists-past n faults rows = go (isFaultList n faults) (eqb rows n)
+lists-past n faults rows = go (isFaultList n faults) (isTable n rows)
   where
     go : (a b : Bool) → isPast (cond (not a) TABLE (cond (not b) TABLE 0)) ≡ true
     go false b = refl
@@ -80,7 +80,7 @@ module _ (n own quorum d : ℕ) (total : TotalShards) (size : ℕ) (penalty : Fl
 
 -- ---- the policy
 module _ (n f own d w majority size adaptive balanced : ℕ) (models : List Float) (inflight : List ℕ) (alive : ℕ)
-    (initial table : List ℕ) (rows : ℕ) where
+    (initial table : List ℕ) (fits : Bool) where
   lent-is : (a b c : Bool) → cond (not a) TABLE (cond (not b) TABLE (cond (not c) TABLE 0)) ≡ cond (a && (b && c)) 0 TABLE
   lent-is false b c = refl
   lent-is true false c = refl
@@ -94,14 +94,14 @@ module _ (n f own d w majority size adaptive balanced : ℕ) (models : List Floa
   fitted (suc k) false c = refl
 
   -- the choice of the entry, if the tables fit
-  pub policy-in-is : policyIn n f own d w majority size adaptive balanced models inflight alive initial table rows
-      ≡ fittingOf (policyTables n (length models) (length inflight) rows)
+  pub policy-in-is : policyIn n f own d w majority size adaptive balanced models inflight alive initial table fits
+      ≡ fittingOf (policyTables n (length models) (length inflight) fits)
       (policyOf n f own d w majority size (fromInFlight inflight) (fromModels models) alive initial table (isSet adaptive) (isSet balanced))
   unfolding policyIn policyOf
   policy-in-is =
       let k = policyRefusal n f own d w majority size (fromInFlight inflight) alive initial table in
       rw (
-        choice-number n f own d w majority size adaptive balanced models inflight alive initial table rows,
-        lent-is (isRecords (length models) 3 n) (eqb (length inflight) n) (eqb rows n),
+        choice-number n f own d w majority size adaptive balanced models inflight alive initial table fits,
+        lent-is (isRecords (length models) 3 n) (eqb (length inflight) n) fits,
       )
-      (fitted k (policyTables n (length models) (length inflight) rows) _)
+      (fitted k (policyTables n (length models) (length inflight) fits) _)

@@ -3,7 +3,7 @@ use mathlib.Core.Path.{_≡_, refl, sym, ap, subst, _∙_}
 use mathlib.Core.Bool.{Bool, true, false, _&&_, and-eq-true-iff}
 use mathlib.Core.List.{List, [], _∷_}
 use mathlib.Core.Option.{Option, none, some}
-use Prim.Native.Nat.{ℕ, suc}
+use Prim.Native.Nat.{ℕ, suc, _*_}
 use native.Mathlib.Omega.{arith}
 use lib.Dec.{eqb}
 use lib.Ieee.{Float}
@@ -11,8 +11,10 @@ use lib.ListN.{length}
 use borrow.Author.Tests.{eq-eqb, ne-eqb, eqb-true}
 use Rattle.refusals.specs.Numbers.{TABLE}
 use Rattle.refusals.specs.Outcome.{Outcome, refused, accepted, andThen}
+use Rattle.refusals.specs.Limits.{isTable}
+use Rattle.rows.specs.Row.{rowsIn, spelled}
 use Rattle.adaptive.specs.Policy.{policyRefusal, policyOf, rowsOf, Holds}
-use Rattle.adaptive.specs.PolicyLaws.{choice-means, initial-means, rows-fit}
+use Rattle.adaptive.specs.PolicyLaws.{choice-means, initial-means, words-fit}
 use Rattle.adaptive.proofs.Entries.{policy-holds}
 use Rattle.c_types.specs.CTypes.{isSet}
 use Rattle.c_types.specs.Tables.{isRecords, fromModels, fromInFlight}
@@ -31,57 +33,65 @@ module _ (n f own d w majority size adaptive balanced : ℕ) (models : List Floa
   abbrev policy : Outcome (Option ℕ)
   policy = policyOf n f own d w majority size (fromInFlight inflight) (fromModels models) alive initial table (isSet adaptive) (isSet balanced)
 
-  abbrev fits : ℕ → Bool
-  fits rows = policyTables n (length models) (length inflight) rows
+  abbrev fits : Bool → Bool
+  fits lent = policyTables n (length models) (length inflight) lent
+
+  -- the words of the rows of a choice
+  abbrev wordsFor : Outcome (Option ℕ) → List ℕ
+  wordsFor o = spelled (rowsOf n d majority o (rowsIn initial) (rowsIn table))
 
   -- what is refused for the tables that C lends
   abbrev unfit : Outcome (Option ℕ) → Outcome (Option ℕ)
   unfit o = andThen o (λ _. refused TABLE)
 
-  in-is : (rows : ℕ) → policyIn n f own d w majority size adaptive balanced models inflight alive initial table rows ≡ fittingOf (fits rows) policy
-  in-is rows = policy-in-is n f own d w majority size adaptive balanced models inflight alive initial table rows
+  in-is : (lent : Bool) → policyIn n f own d w majority size adaptive balanced models inflight alive initial table lent ≡ fittingOf (fits lent) policy
+  in-is lent = policy-in-is n f own d w majority size adaptive balanced models inflight alive initial table lent
 
-  pub held : (rows : ℕ) {o : Outcome (Option ℕ)} → o ≡ policyIn n f own d w majority size adaptive balanced models inflight alive initial table rows
-      → Holds n d majority o (length table)
-  held rows {o} e = go (fits rows) (e ∙ in-is rows)
+  pub held : (lent : Bool) {o : Outcome (Option ℕ)} → o ≡ policyIn n f own d w majority size adaptive balanced models inflight alive initial table lent
+      → Holds n d majority o (length initial) (length table)
+  held lent {o} e = go (fits lent) (e ∙ in-is lent)
     where
-      unheld : (p : Outcome (Option ℕ)) → Holds n d majority (unfit p) (length table)
+      unheld : (p : Outcome (Option ℕ)) → Holds n d majority (unfit p) (length initial) (length table)
       unheld (refused k) = tt
       unheld (accepted c) = tt
 
-      go : (b : Bool) → o ≡ fittingOf b policy → Holds n d majority o (length table)
+      go : (b : Bool) → o ≡ fittingOf b policy → Holds n d majority o (length initial) (length table)
       go true e = policy-holds n f own d w majority size (fromInFlight inflight) (fromModels models) alive initial table (isSet adaptive) (isSet balanced) e
-      go false e = subst (λ (p : Outcome (Option ℕ)). Holds n d majority p (length table)) (sym e) (unheld policy)
+      go false e = subst (λ (p : Outcome (Option ℕ)). Holds n d majority p (length initial) (length table)) (sym e) (unheld policy)
 
   unrefused : (c : Option ℕ) → policy ≡ accepted c → policyRefusal n f own d w majority size (fromInFlight inflight) alive initial table ≡ 0
   unrefused none e = initial-means n f own d w majority size (fromInFlight inflight) (fromModels models) alive initial table (isSet adaptive) (isSet balanced) .0 e .0
   unrefused (some c) e = choice-means n f own d w majority size (fromInFlight inflight) (fromModels models) alive initial table (isSet adaptive) (isSet balanced) c .0 e .unrefused
 
   -- an accepted choice has n rows
-  n-rows : (c : Option ℕ) → policy ≡ accepted c → length (rowsOf n d majority (accepted c) initial table) ≡ n
+  n-rows : (c : Option ℕ) → policy ≡ accepted c → length (wordsFor (accepted c)) ≡ n * 4
   n-rows c e =
-      ap (λ (p : Outcome (Option ℕ)). length (rowsOf n d majority p initial table)) (sym e)
-      ∙ rows-fit n f own d w majority size (fromInFlight inflight) (fromModels models) alive initial table (isSet adaptive) (isSet balanced) (unrefused c e) .0
+      ap (λ (p : Outcome (Option ℕ)). length (wordsFor p)) (sym e)
+      ∙ words-fit n f own d w majority size (fromInFlight inflight) (fromModels models) alive initial table (isSet adaptive) (isSet balanced) (unrefused c e) .1
 
-  pub rows-left : (rows : List ℕ) {after part : List ℕ} {o : Outcome (Option ℕ)} → o ≡ policyIn n f own d w majority size adaptive balanced models inflight alive initial table (length rows)
-      → part ≡ rowsOf n d majority o initial table → after ≡ copied part rows
-      → after ≡ rowsLeft n d majority (policyIn n f own d w majority size adaptive balanced models inflight alive initial table (length rows)) initial table rows
-  rows-left rows {o} e t q =
-      q ∙ ap (λ (part : List ℕ). copied part rows) t ∙ ap (λ (p : Outcome (Option ℕ)). copied (rowsOf n d majority p initial table) rows) e
-      ∙ rw (in-is (length rows)) (go (fits (length rows)) refl)
+  no-words : (rows : List ℕ) → copied (spelled []) rows ≡ rows
+  unfolding spelled
+  no-words rows = none-copied rows
+
+  pub rows-left : (rows : List ℕ) {after part : List ℕ} {o : Outcome (Option ℕ)} {lent : Bool} → lent ≡ isTable n (length rows)
+      → o ≡ policyIn n f own d w majority size adaptive balanced models inflight alive initial table lent
+      → part ≡ wordsFor o → after ≡ copied part rows
+      → after ≡ rowsLeft n d majority (policyIn n f own d w majority size adaptive balanced models inflight alive initial table (isTable n (length rows))) initial table rows
+  rows-left rows {o} {lent} is e t q =
+      q ∙ ap (λ (part : List ℕ). copied part rows) t ∙ ap (λ (p : Outcome (Option ℕ)). copied (wordsFor p) rows) (e ∙ ap (policyIn n f own d w majority size adaptive balanced models inflight alive initial table) is)
+      ∙ rw (in-is (isTable n (length rows))) (go (fits (isTable n (length rows))) refl)
     where
-      unwritten : (p : Outcome (Option ℕ)) → copied (rowsOf n d majority (unfit p) initial table) rows ≡ rowsLeft n d majority (unfit p) initial table rows
-      unwritten (refused k) = none-copied rows
-      unwritten (accepted c) = none-copied rows
+      unwritten : (p : Outcome (Option ℕ)) → copied (wordsFor (unfit p)) rows ≡ rowsLeft n d majority (unfit p) initial table rows
+      unwritten (refused k) = no-words rows
+      unwritten (accepted c) = no-words rows
 
-      fitted : length rows ≡ n → (p : Outcome (Option ℕ)) → policy ≡ p → copied (rowsOf n d majority p initial table) rows ≡ rowsLeft n d majority p initial table rows
-      fitted l (refused k) u = none-copied rows
-      fitted l (accepted c) u = all-copied (rowsOf n d majority (accepted c) initial table) rows (n-rows c u ∙ sym l)
+      fitted : length rows ≡ n * 4 → (p : Outcome (Option ℕ)) → policy ≡ p → copied (wordsFor p) rows ≡ rowsLeft n d majority p initial table rows
+      fitted l (refused k) u = no-words rows
+      fitted l (accepted c) u = all-copied (wordsFor (accepted c)) rows (n-rows c u ∙ sym l)
 
-      go : (b : Bool) → fits (length rows) ≡ b
-          → copied (rowsOf n d majority (fittingOf b policy) initial table) rows ≡ rowsLeft n d majority (fittingOf b policy) initial table rows
+      go : (b : Bool) → fits (isTable n (length rows)) ≡ b → copied (wordsFor (fittingOf b policy)) rows ≡ rowsLeft n d majority (fittingOf b policy) initial table rows
       go true t =
-          let u = and-eq-true-iff (isRecords (length models) 3 n) (eqb (length inflight) n && eqb (length rows) n) .0 t .1 in
-          let l = eqb-true (length rows) n (and-eq-true-iff (eqb (length inflight) n) (eqb (length rows) n) .0 u .1) in
+          let u = and-eq-true-iff (isRecords (length models) 3 n) (eqb (length inflight) n && isTable n (length rows)) .0 t .1 in
+          let l = eqb-true (length rows) (n * 4) (and-eq-true-iff (eqb (length inflight) n) (isTable n (length rows)) .0 u .1) in
           fitted l policy refl
       go false t = unwritten policy

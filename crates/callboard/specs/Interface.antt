@@ -1,5 +1,5 @@
 -- The C interface of plans and of the policy: the entry over the tables lent by replica, whose lengths it tests. Assumes nothing.
-use mathlib.Core.Bool.{cond}
+use mathlib.Core.Bool.{Bool, cond}
 use mathlib.Core.List.{List, [], _∷_, _++_}
 use mathlib.Core.Option.{Option}
 use Prim.Native.Nat.{ℕ}
@@ -10,6 +10,7 @@ use Rattle.refusals.specs.Numbers.{MASK, TABLE}
 use Rattle.refusals.specs.First.{Case, unless, firstOf}
 use Rattle.refusals.specs.Outcome.{Outcome, refused, accepted, checked}
 use Rattle.refusals.specs.Limits.{isMask}
+use Rattle.rows.specs.Row.{rowsIn, spelled}
 use Rattle.layout.specs.declared.TotalShards.{TotalShards}
 use Rattle.assignment.specs.Plans.{Plan, pickInputCases, pickTableCases, pickOf}
 use Rattle.adaptive.specs.Policy.{policyCases, policyOf, rowsOf}
@@ -35,26 +36,25 @@ pickIn n own quorum d total size penalty heard models inflight faults rows =
 
 -- ---- the policy
 
--- three floats and a word for each of n replicas, and n rows
-abbrev pub lentCases : ℕ → ℕ → ℕ → ℕ → List Case
-lentCases n models inflight rows = unless (isRecords models 3 n) TABLE ∷ unless (eqb inflight n) TABLE ∷ unless (eqb rows n) TABLE ∷ []
+-- three floats and a word for each of n replicas, and the table lent for the rows, if there is one, has n rows
+abbrev pub lentCases : ℕ → ℕ → ℕ → Bool → List Case
+lentCases n models inflight lent = unless (isRecords models 3 n) TABLE ∷ unless (eqb inflight n) TABLE ∷ unless lent TABLE ∷ []
 
 -- after the entry's cases
-abbrev pub choiceCases : ℕ → ℕ → ℕ → ℕ → ℕ → ℕ → ℕ → List Float → List ℕ → ℕ → List ℕ → List ℕ → ℕ → List Case
-choiceCases n f own d w majority size models inflight alive initial table rows =
-    policyCases n f own d w majority size (fromInFlight inflight) alive initial table ++ lentCases n (length models) (length inflight) rows
+abbrev pub choiceCases : ℕ → ℕ → ℕ → ℕ → ℕ → ℕ → ℕ → List Float → List ℕ → ℕ → List ℕ → List ℕ → Bool → List Case
+choiceCases n f own d w majority size models inflight alive initial table lent =
+    policyCases n f own d w majority size (fromInFlight inflight) alive initial table ++ lentCases n (length models) (length inflight) lent
 
--- of that many rows lent
-unfoldable pub policyIn : ℕ → ℕ → ℕ → ℕ → ℕ → ℕ → ℕ → ℕ → ℕ → List Float → List ℕ → ℕ → List ℕ → List ℕ → ℕ → Outcome (Option ℕ)
-policyIn n f own d w majority size adaptive balanced models inflight alive initial table rows =
-    checked (firstOf (choiceCases n f own d w majority size models inflight alive initial table rows))
+unfoldable pub policyIn : ℕ → ℕ → ℕ → ℕ → ℕ → ℕ → ℕ → ℕ → ℕ → List Float → List ℕ → ℕ → List ℕ → List ℕ → Bool → Outcome (Option ℕ)
+policyIn n f own d w majority size adaptive balanced models inflight alive initial table lent =
+    checked (firstOf (choiceCases n f own d w majority size models inflight alive initial table lent))
     (policyOf n f own d w majority size (fromInFlight inflight) (fromModels models) alive initial table (isSet adaptive) (isSet balanced))
 
 -- a part, copied where it has as many words as the table
 abbrev pub copied : List ℕ → List ℕ → List ℕ
 copied part rows = cond (eqb (length part) (length rows)) part rows
 
--- the table at exit: the rows of the choice
+-- the table at exit: the rows of the choice, four words a row
 abbrev pub rowsLeft : ℕ → ℕ → ℕ → Outcome (Option ℕ) → List ℕ → List ℕ → List ℕ → List ℕ
 rowsLeft n d majority (refused k) initial table rows = rows
-rowsLeft n d majority (accepted c) initial table rows = rowsOf n d majority (accepted c) initial table
+rowsLeft n d majority (accepted c) initial table rows = spelled (rowsOf n d majority (accepted c) (rowsIn initial) (rowsIn table))

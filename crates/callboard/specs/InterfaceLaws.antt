@@ -1,5 +1,6 @@
 -- What the C interface accepts of plans and of the policy: what the entry accepts, with tables by replica that fit n. Assumes nothing.
 use mathlib.Core.Path.{_≡_, refl, sym, ap, _∙_}
+use mathlib.Core.Bool.{Bool, true}
 use mathlib.Core.Logic.{_↔_}
 use mathlib.Core.List.{List, _++_}
 use mathlib.Core.Option.{Option}
@@ -84,32 +85,32 @@ module _ (n own quorum d : ℕ) (total : TotalShards) (size : ℕ) (penalty : Fl
 
 -- ---- the policy
 module _ (n f own d w majority size adaptive balanced : ℕ) (models : List Float) (inflight : List ℕ) (alive : ℕ)
-    (initial table : List ℕ) (rows : ℕ) where
+    (initial table : List ℕ) (fits : Bool) where
   abbrev pub number : ℕ
   number = policyRefusal n f own d w majority size (fromInFlight inflight) alive initial table
 
   abbrev pub lent : ℕ
-  lent = firstOf (lentCases n (length models) (length inflight) rows)
+  lent = firstOf (lentCases n (length models) (length inflight) fits)
 
-  pub choice-number : firstOf (choiceCases n f own d w majority size models inflight alive initial table rows) ≡ otherwise number lent
+  pub choice-number : firstOf (choiceCases n f own d w majority size models inflight alive initial table fits) ≡ otherwise number lent
   unfolding policyRefusal
   choice-number =
       first-then (policyCases n f own d w majority size (fromInFlight inflight) alive initial table)
-      (lentCases n (length models) (length inflight) rows) refl
+      (lentCases n (length models) (length inflight) fits) refl
 
-  -- the tables have three floats and a word for each replica, and a row
+  -- the tables have three floats and a word for each replica, and the one lent for the rows fits
   abbrev pub Lent : Type 0
-  Lent = (length models ≡ n * 3) × (length inflight ≡ n) × (rows ≡ n)
+  Lent = (length models ≡ n * 3) × (length inflight ≡ n) × (fits ≡ true)
 
   lent-means : (lent ≡ 0) ↔ Lent
   lent-means = (
     λ e.
-        let h = none-holds (lentCases n (length models) (length inflight) rows) refl .0 e in (
+        let h = none-holds (lentCases n (length models) (length inflight) fits) refl .0 e in (
           eqb-true (length models) (n * 3) (not-false _ (h .0)),
           eqb-true (length inflight) n (not-false _ (h .1 .0)),
-          eqb-true rows n (not-false _ (h .1 .1 .0)),
+          not-false _ (h .1 .1 .0),
         ),
-    λ h. simp (eq-eqb (length models) (n * 3) (h .0), eq-eqb (length inflight) n (h .1), eq-eqb rows n (h .2)),
+    λ h. simp (eq-eqb (length models) (n * 3) (h .0), eq-eqb (length inflight) n (h .1), h .2),
   )
 
   abbrev choice : Outcome (Option ℕ)
@@ -118,11 +119,11 @@ module _ (n f own d w majority size adaptive balanced : ℕ) (models : List Floa
 
   -- accepted is what the entry accepts, of tables that fit
   pub policy-in-means : (o : Option ℕ)
-      → (policyIn n f own d w majority size adaptive balanced models inflight alive initial table rows ≡ accepted o)
+      → (policyIn n f own d w majority size adaptive balanced models inflight alive initial table fits ≡ accepted o)
       ↔ (Lent × (choice ≡ accepted o))
   unfolding policyIn policyOf
   policy-in-means o =
-      let m = checked-means (firstOf (choiceCases n f own d w majority size models inflight alive initial table rows)) choice o in (
+      let m = checked-means (firstOf (choiceCases n f own d w majority size models inflight alive initial table fits)) choice o in (
         λ e. let h = m .0 e in (lent-means .0 (neither number lent .0 (sym choice-number ∙ h .0) .1), h .1),
         λ h. m .1 (choice-number ∙ neither number lent .1 (accepted-means number _ o .0 (h .1) .0, lent-means .1 (h .0)), h .1),
       )

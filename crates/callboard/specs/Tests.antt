@@ -19,9 +19,9 @@ isPast typed = eqb typed 0 || leb MASK typed
 unfoldable pub planTables : ℕ → ℕ → ℕ → ℕ → ℕ → ℕ
 planTables typed n heard models inflight = firstOf (unless (isPast typed) typed ∷ heardCases n heard models inflight)
 
--- three floats and a word for each of n replicas, and n rows
-abbrev pub policyTables : ℕ → ℕ → ℕ → ℕ → Bool
-policyTables n models inflight rows = isRecords models 3 n && (eqb inflight n && eqb rows n)
+-- three floats and a word for each of n replicas, and n rows, where a table is lent for them
+abbrev pub policyTables : ℕ → ℕ → ℕ → Bool → Bool
+policyTables n models inflight lent = isRecords models 3 n && (eqb inflight n && lent)
 
 -- the choice if the tables fit, and else the number that refuses it, or that of the tables
 abbrev pub fittingOf : Bool → Outcome (Option ℕ) → Outcome (Option ℕ)

@@ -1,6 +1,7 @@
 // The C interface (include/callboard.h): an exported function for each entry, which takes its parameters apart, calls the entry and flattens the answer. Every
 // number is 64 bits wide; a slice is a pointer and a length. Beside a refusal every other field is 0, and nothing is written.
 ghost use mathlib.Core.Path.{_≡_};
+ghost use mathlib.Core.Bool.{true};
 ghost use lib.ListN.{length};
 ghost use Rattle.profiles.specs.Unreliability.{unreliabilityOf};
 ghost use Rattle.profile_text.specs.ProfileText.{profileOf, parsed};
@@ -10,8 +11,10 @@ ghost use Rattle.layout.specs.Layout.{layoutRowsOf, rowsWritten, layoutCommitsO
 ghost use Rattle.assignment.specs.Plans.{planned, fullCopiesOf, copiesWritten};
 ghost use Rattle.adaptive.specs.Floor.{minShardsOf};
 ghost use Rattle.adaptive.specs.Policy.{chosen};
-ghost use Rattle.layout_text.specs.LayoutText.{initOf};
+ghost use Rattle.layout_text.specs.LayoutText.{initTable};
 ghost use Rattle.refusals.specs.Outcome.{left};
+ghost use Rattle.refusals.specs.Limits.{isTable};
+ghost use Rattle.rows.specs.Row.{rowOf};
 ghost use Rattle.gossip.specs.Gossip.{gossipOf, exclusionsLeft};
 ghost use Rattle.tally.specs.Tally.{openingOf, told, replyOf, tallyAfter};
 ghost use Rattle.c_types.specs.CTypes.{toTotal, toAnswer, toFlag, toDone, toFloat, toLayout, toPlan, toChoice, toReply, toReading, fromProfile, fromTally, tallyLeft, toOpening};
@@ -29,6 +32,7 @@ use c_types::ProfileReading;
 use c_types::Reply;
 use c_types::Tally;
 use c_types::TallyOpening;
+use rows::Row;
 
 // The answer, and the tally as the reply leaves it.
 struct Replied {
@@ -255,7 +259,7 @@ pub extern "C" fn callboard_pick_assignment_policy(
     init: &[u64],
     table: &[u64],
 ) -> Choice
-    ensures { λ r. ⌜ r ≡ toChoice (policyIn n f own d w majority size adaptive balanced (now (models .entry)) (now (inflight .entry)) alive (now (init .entry)) (now (table .entry)) n) ⌝ }
+    ensures { λ r. ⌜ r ≡ toChoice (policyIn n f own d w majority size adaptive balanced (now (models .entry)) (now (inflight .entry)) alive (now (init .entry)) (now (table .entry)) true) ⌝ }
 {
     c_types::chosen(policy(
         n,
@@ -272,7 +276,7 @@ pub extern "C" fn callboard_pick_assignment_policy(
         alive,
         init,
         table,
-        n,
+        true,
     ))
 }
 
@@ -295,9 +299,10 @@ pub extern "C" fn callboard_policy_rows<'a>(
     table: &'a [u64],
     rows: &mut [u64],
 ) -> Choice
-    ensures answer { λ r. ⌜ r ≡ toChoice (policyIn n f own d w majority size adaptive balanced (now (models .entry)) (now (inflight .entry)) alive (now (init .entry)) (now (table .entry)) (length (now (rows .entry)))) ⌝ }
-    ensures words { λ _. ⌜ now (rows .exit) ≡ rowsLeft n d majority (policyIn n f own d w majority size adaptive balanced (now (models .entry)) (now (inflight .entry)) alive (now (init .entry)) (now (table .entry)) (length (now (rows .entry)))) (now (init .entry)) (now (table .entry)) (now (rows .entry)) ⌝ }
+    ensures answer { λ r. ⌜ r ≡ toChoice (policyIn n f own d w majority size adaptive balanced (now (models .entry)) (now (inflight .entry)) alive (now (init .entry)) (now (table .entry)) (isTable n (length (now (rows .entry))))) ⌝ }
+    ensures words { λ _. ⌜ now (rows .exit) ≡ rowsLeft n d majority (policyIn n f own d w majority size adaptive balanced (now (models .entry)) (now (inflight .entry)) alive (now (init .entry)) (now (table .entry)) (isTable n (length (now (rows .entry))))) (now (init .entry)) (now (table .entry)) (now (rows .entry)) ⌝ }
 {
+    let lent = refusals::is_table(n, rows.len());
     let choice = policy(
         n,
         f,
@@ -313,13 +318,13 @@ pub extern "C" fn callboard_policy_rows<'a>(
         alive,
         init,
         table,
-        rows.len(),
+        lent,
     );
     copy_part(adaptive::rows_of(n, d, majority, choice, init, table), rows);
     c_types::chosen(choice)
 }
 
-// The choice, where the tables that C lends by replica and the table of that many rows fit n.
+// The choice, where the tables that C lends by replica fit n, and the table for the rows, if one is lent.
 fn policy(
     n: usize,
     f: usize,
@@ -335,12 +340,12 @@ fn policy(
     alive: u64,
     init: &[u64],
     table: &[u64],
-    rows: usize,
+    lent: bool,
 ) -> Policy
-    ensures { λ r. ⌜ chosen r ≡ policyIn n f own d w majority size adaptive balanced (now (models .entry)) (now (inflight .entry)) alive (now (init .entry)) (now (table .entry)) rows ⌝ }
+    ensures { λ r. ⌜ chosen r ≡ policyIn n f own d w majority size adaptive balanced (now (models .entry)) (now (inflight .entry)) alive (now (init .entry)) (now (table .entry)) lent ⌝ }
 {
     fitting(
-        policy_tables(n, models.len(), inflight.len(), rows),
+        policy_tables(n, models.len(), inflight.len(), lent),
         adaptive::pick_assignment_policy(
             n,
             f,
@@ -360,8 +365,8 @@ fn policy(
     )
 }
 
-fn policy_tables(n: usize, models: usize, inflight: usize, rows: usize) -> bool
-    ensures { λ r. ⌜ r ≡ policyTables n models inflight rows ⌝ }
+fn policy_tables(n: usize, models: usize, inflight: usize, lent: bool) -> bool
+    ensures { λ r. ⌜ r ≡ policyTables n models inflight lent ⌝ }
 {
     if !c_types::is_records(models, 3, n) {
         return false;
@@ -369,7 +374,7 @@ fn policy_tables(n: usize, models: usize, inflight: usize, rows: usize) -> bool
     if inflight != n {
         return false;
     }
-    rows == n
+    lent
 }
 
 // The choice if the tables fit; else the number that refuses it, or that of the tables.
@@ -404,8 +409,8 @@ pub extern "C" fn callboard_parse_init_assignment(
     text: &[u8],
     rows: &mut [u64],
 ) -> Answer
-    ensures answer { λ r. ⌜ r ≡ toDone (initOf n d total (now (text .entry)) (length (now (rows .entry)))) ⌝ }
-    ensures words { λ _. ⌜ now (rows .exit) ≡ left (initOf n d total (now (text .entry)) (length (now (rows .entry)))) (now (rows .entry)) ⌝ }
+    ensures answer { λ r. ⌜ r ≡ toDone (initTable n d total (now (text .entry)) (length (now (rows .entry)))) ⌝ }
+    ensures words { λ _. ⌜ now (rows .exit) ≡ left (initTable n d total (now (text .entry)) (length (now (rows .entry)))) (now (rows .entry)) ⌝ }
 {
     c_types::init(layout_text::parse_init_assignment(n, d, total, text, rows))
 }
@@ -418,13 +423,13 @@ pub extern "C" fn callboard_gossip_targets_excl(
     source: usize,
     d: usize,
     w: usize,
-    available: u64,
+    available: Row,
     rows: &[u64],
     alive: u64,
     exclusions: &mut [u64],
 ) -> Answer
-    ensures answer { λ r. ⌜ r ≡ toAnswer (gossipOf n own source d w available (now (rows .entry)) alive (length (now (exclusions .entry)))) ⌝ }
-    ensures words { λ _. ⌜ now (exclusions .exit) ≡ exclusionsLeft n own source d w available (now (rows .entry)) alive (now (exclusions .entry)) ⌝ }
+    ensures answer { λ r. ⌜ r ≡ toAnswer (gossipOf n own source d w (rowOf available) (now (rows .entry)) alive (length (now (exclusions .entry)))) ⌝ }
+    ensures words { λ _. ⌜ now (exclusions .exit) ≡ exclusionsLeft n own source d w (rowOf available) (now (rows .entry)) alive (now (exclusions .entry)) ⌝ }
 {
     c_types::gossiped(gossip::gossip_targets_excl(
         n,
@@ -462,11 +467,11 @@ pub extern "C" fn callboard_accept_reply(
     ballot: u64,
     high: u64,
     low: u64,
-    row: u64,
+    row: Row,
     faults: &[u64],
 ) -> Reply
-    ensures { λ r. ⌜ (r ≡ toReply (replyOf (fromTally (now (t .entry))) (told source ballot high low row (now (faults .entry)))))
-        × (now (t .exit) ≡ tallyLeft (now (t .entry)) (tallyAfter (fromTally (now (t .entry))) (told source ballot high low row (now (faults .entry))))) ⌝ }
+    ensures { λ r. ⌜ (r ≡ toReply (replyOf (fromTally (now (t .entry))) (told source ballot high low (rowOf row) (now (faults .entry)))))
+        × (now (t .exit) ≡ tallyLeft (now (t .entry)) (tallyAfter (fromTally (now (t .entry))) (told source ballot high low (rowOf row) (now (faults .entry))))) ⌝ }
 {
     let r = counted(*t, source, ballot, high, low, row, faults);
     if r.reply.refusal == 0 {
@@ -482,11 +487,11 @@ fn counted(
     ballot: u64,
     high: u64,
     low: u64,
-    row: u64,
+    row: Row,
     faults: &[u64],
 ) -> Replied
-    ensures { λ r. ⌜ (r .reply ≡ toReply (replyOf (fromTally t) (told source ballot high low row (now (faults .entry)))))
-        × (r .tally ≡ tallyLeft t (tallyAfter (fromTally t) (told source ballot high low row (now (faults .entry))))) ⌝ }
+    ensures { λ r. ⌜ (r .reply ≡ toReply (replyOf (fromTally t) (told source ballot high low (rowOf row) (now (faults .entry)))))
+        × (r .tally ≡ tallyLeft t (tallyAfter (fromTally t) (told source ballot high low (rowOf row) (now (faults .entry))))) ⌝ }
 {
     let r = tally::reply(
         c_types::from_tally(t),

@@ -6,6 +6,7 @@ ghost use lib.Ieee.{le};
 ghost use lib.ListN.{length, getD};
 ghost use Rattle.lists.specs.Below.{runOf};
 ghost use Rattle.lists.specs.First.{betterBy};
+ghost use Rattle.refusals.specs.Limits.{mostShards};
 ghost use Rattle.floats.specs.Floats.{isFinite, totalLe, found};
 ghost use Rattle.layout.specs.Layout.{Fit, bound};
 ghost use Rattle.times.specs.Times.{never};
@@ -42,7 +43,7 @@ pub fn first_time(
 
 // Whether the time stands also one place before, or at the same load one or two replicas before. Our own times are all equal, and so are those of equal peers.
 fn is_repeat(d: usize, times: &[f64], i: usize) -> bool
-    requires { ⌜ (d ≤ 64) × (i < length (now times)) ⌝ }
+    requires { ⌜ (d ≤ mostShards) × (i < length (now times)) ⌝ }
     ensures { λ r. ⌜ r ≡ isRepeat d (now (times .entry)) i ⌝ }
 {
     if repeats(times, 1, i) {
@@ -120,7 +121,7 @@ pub fn loads_at(
     t: f64,
     loads: &mut [usize],
 ) -> u64
-    requires { ⌜ (d ≤ 64) × (n ≤ 16) × (length (now times) ≡ n * suc d) × (length (now loads) ≡ n) ⌝ }
+    requires { ⌜ (d ≤ mostShards) × (n ≤ 16) × (length (now times) ≡ n * suc d) × (length (now loads) ≡ n) ⌝ }
     ensures mask { λ r. ⌜ r ≡ answeredAt (own .0) d (now (times .entry)) t n ⌝ }
     ensures loads { λ r. ⌜ now (loads .exit) ≡ loadsAt (own .0) d (now (times .entry)) t n ⌝ }
 {
@@ -141,7 +142,7 @@ pub fn loads_at(
 
 // How many loads of the replica p, from 0 on in an unbroken run, are in time.
 fn run_at(own: ReplicaId, d: usize, times: &[f64], t: f64, p: ReplicaId) -> usize
-    requires { ⌜ (d ≤ 64) × (p .0 * suc d + d < length (now times)) ⌝ }
+    requires { ⌜ (d ≤ mostShards) × (p .0 * suc d + d < length (now times)) ⌝ }
     ensures { λ r. ⌜ r ≡ runAt (own .0) d (now (times .entry)) t (p .0) ⌝ }
 {
     if p.0 == own.0 {
@@ -152,7 +153,7 @@ fn run_at(own: ReplicaId, d: usize, times: &[f64], t: f64, p: ReplicaId) -> usiz
 
 // How many times from a place on, in an unbroken run of at most d + 1, are at most t.
 fn run_from(d: usize, times: &[f64], from: usize, t: f64) -> usize
-    requires { ⌜ (d ≤ 64) × (from + d < length (now times)) ⌝ }
+    requires { ⌜ (d ≤ mostShards) × (from + d < length (now times)) ⌝ }
     ensures { λ r. ⌜ r ≡ runOf (λ (k : ℕ). le (getD (now (times .entry)) (from + k) never) t) (suc d) ⌝ }
 {
     let mut k = 0;

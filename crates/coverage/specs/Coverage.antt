@@ -1,22 +1,27 @@
 -- The commit rule (`covers`) and the discard rule (`survived_by`). Assumes nothing.
 use mathlib.Core.Bool.{Bool, true, false, cond, not, _&&_}
 use mathlib.Core.List.{List, [], _∷_}
-use Prim.Native.Nat.{ℕ, zero, suc}
+use Prim.Native.Nat.{ℕ, zero, suc, _^_, _<_}
 use lib.Bits.{bitOr}
 use lib.Dec.{leb, eqb}
 use lib.ListN.{length}
 use Rattle.lists.specs.All.{all, any}
-use Rattle.bitmap.specs.Mask.{hasBit, allBelow, count, rowIn}
+use Rattle.bitmap.specs.Mask.{hasBit, allBelow, count}
+use Rattle.rows.specs.Row.{rowIn}
 use Rattle.refusals.specs.Numbers.{POPULATION, SHARDS, MASK, TABLE}
 use Rattle.refusals.specs.First.{Case, unless, firstOf}
 use Rattle.refusals.specs.Outcome.{Outcome, refused, accepted, outcome}
-use Rattle.refusals.specs.Limits.{isPopulation, isShards, isMask, isRow, isFaultList}
+use Rattle.refusals.specs.Limits.{isPopulation, isShards, isMask, areRows, isTable, isFaultList}
 use Rattle.coverage.specs.declared.Coverage.{Coverage}
 use Rattle.coverage.specs.declared.Coverage.the-variants as Covering
 use Rattle.coverage.specs.declared.Survival.{Survival}
 use Rattle.coverage.specs.declared.Survival.the-variants as Surviving
 
 -- ---- coverage
+
+-- 1 where s is heard and not in the set, else 0
+abbrev pub flagOf : ℕ → ℕ → ℕ → ℕ
+flagOf heard fault s = cond (hasBit heard s && not (hasBit fault s)) 1 0
 
 -- the row of s where s is heard and not in the set `fault`; else no shard
 abbrev pub shareOf : (ℕ → ℕ) → ℕ → ℕ → ℕ → ℕ
@@ -31,6 +36,10 @@ unionOf row heard fault (suc s) = bitOr (unionOf row heard fault s) (shareOf row
 unfoldable pub leaves : ℕ → ℕ → ℕ → (ℕ → ℕ) → ℕ → Bool
 leaves n d heard row fault = leb d (count (unionOf row heard fault n))
 
+-- the rows of the replicas below n have no shard at or above w
+abbrev pub RowsBelow : ℕ → ℕ → (ℕ → ℕ) → Type 0
+RowsBelow n w row = (s : ℕ) → s < n → row s < 2 ^ w
+
 -- nobody heard never covers; otherwise each listed set, taken away, must leave at least d distinct shards
 unfoldable pub isCovered : ℕ → ℕ → ℕ → (ℕ → ℕ) → List ℕ → Bool
 isCovered n d heard row faults = not (eqb heard 0) && all (leaves n d heard row) faults
@@ -43,9 +52,9 @@ abbrev pub coversCases : ℕ → ℕ → ℕ → ℕ → List ℕ → List ℕ �
 coversCases n d w heard rows faults =
     unless (isPopulation n) POPULATION
     ∷ unless (isShards d w) SHARDS
-    ∷ unless (all (isRow w) rows) MASK
+    ∷ unless (areRows w rows) MASK
     ∷ unless (isMask n heard) MASK
-    ∷ unless (eqb (length rows) n) TABLE
+    ∷ unless (isTable n (length rows)) TABLE
     ∷ unless (isFaultList n faults) TABLE
     ∷ []
 

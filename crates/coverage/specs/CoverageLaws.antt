@@ -15,7 +15,8 @@ use lib.ListN.{length, getD}
 use borrow.Author.Tests.{eqb-true, eqb-false, eq-eqb, ne-eqb, leb-true, le-leb, ltb-true, not-true}
 use Rattle.lists.specs.All.{all}
 use Rattle.lists.specs.AllLaws.{all-means, any-means}
-use Rattle.bitmap.specs.Mask.{bit, hasBit, allBelow, count, rowIn}
+use Rattle.bitmap.specs.Mask.{bit, hasBit, allBelow, count}
+use Rattle.rows.specs.Row.{rowIn}
 use Rattle.bitmap.specs.MaskLaws.{Within, bit-lt, bit-none, bit-or, same-bits, full, full-bit}
 use Rattle.bitmap.specs.Members.{Many, count-means, many-map}
 use Rattle.refusals.specs.Limits.{isMask}

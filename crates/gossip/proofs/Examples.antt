@@ -1,10 +1,11 @@
 -- Worked values of the entry, computed by the checker: those asked, what they are to leave out, each refusal, and which of two comes first. Assumes nothing.
 use mathlib.Core.Path.{_≡_, refl}
 use mathlib.Core.List.{List, [], _∷_, map}
-use Prim.Native.Nat.{ℕ, _^_}
+use Prim.Native.Nat.{ℕ, _-_, _*_, _^_}
 use lib.ListN.{replicate}
 use Rattle.lists.specs.Below.{eachBelow}
 use Rattle.bitmap.specs.Mask.{count}
+use Rattle.rows.specs.Row.{value, wordsOf, rowIn, rowsIn, spelled}
 use Rattle.refusals.specs.Outcome.{Outcome, refused, accepted}
 use Rattle.refusals.specs.Limits.{isPopulation, isShards}
 use Rattle.gossip.specs.Gossip.{ring, round, turns, met, visit, walk, gossipRefusal, gossipOf, exclusionsLeft}
@@ -17,8 +18,8 @@ lent k = replicate k 99
 singles : ℕ → List ℕ
 singles n = eachBelow (λ (p : ℕ). 2 ^ p) n
 
--- the population, our own number, the source's, the data shards, the width, what one has, the rows, those alive, how many words are lent; then the answer, and
--- the words at exit
+-- the population, our own number, the source's, the data shards, the width, what one has, the words of the rows, those alive, how many words are lent; then the
+-- answer, and the words at exit
 record Line : Type 0 where
   n : ℕ
   own : ℕ
@@ -31,19 +32,28 @@ record Line : Type 0 where
   room : ℕ
   says : Outcome ℕ × List ℕ
 
-line : ℕ → ℕ → ℕ → ℕ → ℕ → ℕ → List ℕ → ℕ → ℕ → Outcome ℕ → List ℕ → Line
-line n own source d w available rows alive room answer words = record {
+-- the words as they are lent; k is the number of those lent for exclusions
+words : ℕ → ℕ → ℕ → ℕ → ℕ → ℕ → List ℕ → ℕ → ℕ → Outcome ℕ → List ℕ → Line
+words n own source d w available table alive k answer left = record {
   n = n;
   own = own;
   source = source;
   d = d;
   w = w;
   available = available;
-  rows = rows;
+  rows = table;
   alive = alive;
-  room = room;
-  says = (answer, words);
+  room = k;
+  says = (answer, left);
 }
+
+-- the rows, the number of rows that there is room for, and the rows at exit
+line : ℕ → ℕ → ℕ → ℕ → ℕ → ℕ → List ℕ → ℕ → ℕ → Outcome ℕ → List ℕ → Line
+line n own source d w available rows alive room answer left = words n own source d w available (spelled rows) alive (room * 4) answer (spelled left)
+
+-- what is refused leaves the words as they are
+no : ℕ → ℕ → ℕ → ℕ → ℕ → ℕ → List ℕ → ℕ → ℕ → ℕ → Line
+no n own source d w available rows alive room k = words n own source d w available (spelled rows) alive (room * 4) (refused k) (lent (room * 4))
 
 gossip : Line → Outcome ℕ × List ℕ
 gossip l = (
@@ -53,7 +63,7 @@ gossip l = (
 
 -- ---- what is answered
 sheet : List Line
-unfolding singles line
+unfolding singles words line
 sheet =
     -- peer 2 is asked, though d shards are there already; the first live peer has nothing new and, with d there, is the last; with fewer than d it is not
     line 4 1 0 2 4 3 (1 ∷ 2 ∷ 4 ∷ 8 ∷ []) 15 4 (accepted 4) (0 ∷ 0 ∷ 3 ∷ 0 ∷ [])
@@ -85,42 +95,64 @@ sheet =
     ∷ line 3 1 2 64 64 0x7fff_ffff_ffff_ffff (0x3fff_ffff_ffff_ffff ∷ 0 ∷ 0xffff_ffff_ffff_ffff ∷ []) 7 3 (accepted 4) (0 ∷ 0 ∷ 0x7fff_ffff_ffff_ffff ∷ [])
     ∷ []
 
+-- shards at and above 64: enough with the first peer, or with the second; every shard
+wide : List Line
+unfolding words line
+wide =
+    line 3 0 0 65 70 1 (0 ∷ (2 ^ 65 - 2) ∷ 2 ^ 69 ∷ []) 7 3 (accepted 2) (0 ∷ 1 ∷ 0 ∷ [])
+    ∷ line 3 0 0 66 70 1 (0 ∷ (2 ^ 65 - 2) ∷ 2 ^ 69 ∷ []) 7 3 (accepted 6) (0 ∷ 1 ∷ (2 ^ 65 - 1) ∷ [])
+    ∷ line 3 1 2 2 200 (2 ^ 64) (2 ^ 64 ∷ 0 ∷ 2 ^ 199 ∷ []) 7 3 (accepted 4) (0 ∷ 0 ∷ 2 ^ 64 ∷ [])
+    ∷ line 2 1 0 255 255 (2 ^ 254) ((2 ^ 254 - 1) ∷ (2 ^ 255 - 1) ∷ []) 3 2 (accepted 1) (2 ^ 254 ∷ 0 ∷ [])
+    ∷ []
+
 answers : map gossip sheet ≡ map (λ (l : Line). l .says) sheet
-unfolding lent singles line gossip sheet gossipOf exclusionsLeft gossipRefusal isPopulation isShards walk turns round ring eachBelow visit met count
+unfolding lent singles words line gossip sheet gossipOf exclusionsLeft gossipRefusal isPopulation isShards walk turns round ring eachBelow visit met count value wordsOf rowIn rowsIn spelled
 answers = refl
+
+wide-answers : map gossip wide ≡ map (λ (l : Line). l .says) wide
+unfolding lent words line gossip wide gossipOf exclusionsLeft gossipRefusal isPopulation isShards walk turns round ring eachBelow visit met count value wordsOf rowIn rowsIn spelled
+wide-answers = refl
 
 -- ---- what is refused
 unfit : List Line
-unfolding lent line
+unfolding lent words line no
 unfit =
     -- the population; our own number; the source's
-    line 17 0 0 1 1 0 (replicate 17 1) 1 17 (refused 1) (lent 17)
-    ∷ line 3 3 0 2 3 0 (1 ∷ 2 ∷ 4 ∷ []) 7 3 (refused 3) (lent 3)
-    ∷ line 3 0 3 2 3 0 (1 ∷ 2 ∷ 4 ∷ []) 7 3 (refused 3) (lent 3)
+    no 17 0 0 1 1 0 (replicate 17 1) 1 17 1
+    ∷ no 3 3 0 2 3 0 (1 ∷ 2 ∷ 4 ∷ []) 7 3 3
+    ∷ no 3 0 3 2 3 0 (1 ∷ 2 ∷ 4 ∷ []) 7 3 3
     -- the data shards; the width
-    ∷ line 3 0 1 0 3 0 (1 ∷ 2 ∷ 4 ∷ []) 7 3 (refused 4) (lent 3)
-    ∷ line 3 0 1 4 3 0 (1 ∷ 2 ∷ 4 ∷ []) 7 3 (refused 4) (lent 3)
-    ∷ line 3 0 1 2 65 0 (1 ∷ 2 ∷ 4 ∷ []) 7 3 (refused 4) (lent 3)
+    ∷ no 3 0 1 0 3 0 (1 ∷ 2 ∷ 4 ∷ []) 7 3 4
+    ∷ no 3 0 1 4 3 0 (1 ∷ 2 ∷ 4 ∷ []) 7 3 4
+    ∷ no 3 0 1 2 256 0 (1 ∷ 2 ∷ 4 ∷ []) 7 3 4
     -- what one has; a row, also our own; those alive
-    ∷ line 3 0 1 2 3 8 (1 ∷ 2 ∷ 4 ∷ []) 7 3 (refused 16) (lent 3)
-    ∷ line 3 0 1 2 3 0 (1 ∷ 2 ∷ 8 ∷ []) 7 3 (refused 16) (lent 3)
-    ∷ line 3 0 1 2 3 0 (8 ∷ 2 ∷ 4 ∷ []) 7 3 (refused 16) (lent 3)
-    ∷ line 3 0 1 2 3 0 (1 ∷ 2 ∷ 4 ∷ []) 8 3 (refused 16) (lent 3)
+    ∷ no 3 0 1 2 3 8 (1 ∷ 2 ∷ 4 ∷ []) 7 3 16
+    ∷ no 3 0 1 2 3 0 (1 ∷ 2 ∷ 8 ∷ []) 7 3 16
+    ∷ no 3 0 1 2 3 0 (8 ∷ 2 ∷ 4 ∷ []) 7 3 16
+    ∷ no 3 0 1 2 3 0 (1 ∷ 2 ∷ 4 ∷ []) 8 3 16
+    ∷ no 3 0 1 2 70 (2 ^ 70) (1 ∷ 2 ∷ 4 ∷ []) 7 3 16
+    ∷ no 3 0 1 2 70 0 (1 ∷ 2 ^ 69 ∷ 2 ^ 70 ∷ []) 7 3 16
     -- the length of the rows; of the exclusions
-    ∷ line 3 0 1 2 3 0 (1 ∷ 2 ∷ []) 7 3 (refused 17) (lent 3)
-    ∷ line 3 0 1 2 3 0 (1 ∷ 2 ∷ 4 ∷ 1 ∷ []) 7 3 (refused 17) (lent 3)
-    ∷ line 3 0 1 2 3 0 (1 ∷ 2 ∷ 4 ∷ []) 7 2 (refused 17) (lent 2)
-    ∷ line 3 0 1 2 3 0 (1 ∷ 2 ∷ 4 ∷ []) 7 4 (refused 17) (lent 4)
+    ∷ no 3 0 1 2 3 0 (1 ∷ 2 ∷ []) 7 3 17
+    ∷ no 3 0 1 2 3 0 (1 ∷ 2 ∷ 4 ∷ 1 ∷ []) 7 3 17
+    ∷ no 3 0 1 2 3 0 (1 ∷ 2 ∷ 4 ∷ []) 7 2 17
+    ∷ no 3 0 1 2 3 0 (1 ∷ 2 ∷ 4 ∷ []) 7 4 17
+    -- a row of which a word is missing, or that is one too many; the words that are there are tested first
+    ∷ words 2 0 1 2 70 0 (3 ∷ 0 ∷ 0 ∷ 0 ∷ 4 ∷ 0 ∷ 0 ∷ []) 3 8 (refused 17) (lent 8)
+    ∷ words 2 0 1 2 70 0 (3 ∷ 0 ∷ 0 ∷ 0 ∷ 4 ∷ 64 ∷ 0 ∷ []) 3 8 (refused 16) (lent 8)
+    ∷ words 1 0 0 2 70 0 (3 ∷ 0 ∷ 0 ∷ 0 ∷ 1 ∷ []) 1 4 (refused 17) (lent 4)
+    ∷ words 1 0 0 2 70 0 (3 ∷ 0 ∷ 0 ∷ 0 ∷ 1 ∷ 64 ∷ []) 1 4 (refused 16) (lent 4)
+    ∷ words 1 0 0 2 70 0 (3 ∷ 63 ∷ 0 ∷ 0 ∷ []) 1 3 (refused 17) (lent 3)
     -- two cases hold: the first refuses
-    ∷ line 0 0 0 1 1 0 [] 0 0 (refused 1) []
-    ∷ line 3 3 0 0 3 0 (1 ∷ 2 ∷ 4 ∷ []) 7 3 (refused 3) (lent 3)
-    ∷ line 3 0 3 4 3 0 (1 ∷ 2 ∷ 4 ∷ []) 7 3 (refused 3) (lent 3)
-    ∷ line 3 0 1 4 3 8 (1 ∷ 2 ∷ 4 ∷ []) 7 3 (refused 4) (lent 3)
-    ∷ line 3 0 1 2 3 8 (1 ∷ 2 ∷ 4 ∷ []) 7 2 (refused 16) (lent 2)
-    ∷ line 3 0 1 2 3 0 (1 ∷ 8 ∷ []) 7 3 (refused 16) (lent 3)
-    ∷ line 3 0 1 2 3 0 (1 ∷ 2 ∷ []) 8 3 (refused 16) (lent 3)
+    ∷ no 0 0 0 1 1 0 [] 0 0 1
+    ∷ no 3 3 0 0 3 0 (1 ∷ 2 ∷ 4 ∷ []) 7 3 3
+    ∷ no 3 0 3 4 3 0 (1 ∷ 2 ∷ 4 ∷ []) 7 3 3
+    ∷ no 3 0 1 4 3 8 (1 ∷ 2 ∷ 4 ∷ []) 7 3 4
+    ∷ no 3 0 1 2 3 8 (1 ∷ 2 ∷ 4 ∷ []) 7 2 16
+    ∷ no 3 0 1 2 3 0 (1 ∷ 8 ∷ []) 7 3 16
+    ∷ no 3 0 1 2 3 0 (1 ∷ 2 ∷ []) 8 3 16
     ∷ []
 
 refusals : map gossip unfit ≡ map (λ (l : Line). l .says) unfit
-unfolding lent line gossip unfit gossipOf exclusionsLeft gossipRefusal isPopulation isShards
+unfolding lent words line no gossip unfit gossipOf exclusionsLeft gossipRefusal isPopulation isShards value wordsOf rowIn rowsIn spelled eachBelow
 refusals = refl

@@ -5,13 +5,14 @@ use Prim.Native.Nat.{ℕ, _+_, _-_, _%_}
 use lib.Bits.{bitOr}
 use lib.Dec.{leb, eqb}
 use lib.ListN.{length, replicate, set}
-use Rattle.lists.specs.All.{all, passing}
+use Rattle.lists.specs.All.{passing}
 use Rattle.lists.specs.Below.{eachBelow}
-use Rattle.bitmap.specs.Mask.{hasBit, withBit, count, rowIn}
+use Rattle.bitmap.specs.Mask.{hasBit, withBit, count, nthRow}
+use Rattle.rows.specs.Row.{rowOf, rowsIn, spelled}
 use Rattle.refusals.specs.Numbers.{POPULATION, REPLICA, SHARDS, MASK, TABLE}
 use Rattle.refusals.specs.First.{Case, unless, firstOf}
 use Rattle.refusals.specs.Outcome.{Outcome, refused, accepted, outcome, written}
-use Rattle.refusals.specs.Limits.{isPopulation, isReplica, isShards, isMask, isRow}
+use Rattle.refusals.specs.Limits.{isPopulation, isReplica, isShards, isMask, isRow, areRows, isTable}
 use Rattle.gossip.specs.declared.Gossip.{Gossip}
 use Rattle.gossip.specs.declared.Gossip.the-variants.{Refused, Asked}
 use Rattle.gossip.specs.declared.Progress.{Progress}
@@ -40,7 +41,7 @@ pub record Walked : Type 0 where
   pub over : Bool
 
 abbrev pub walked : Progress → List ℕ → Walked
-walked w exclusions = record { asked = w .asked; available = w .available; exclusions = exclusions; over = w .over }
+walked w exclusions = record { asked = w .asked; available = rowOf (w .available); exclusions = exclusions; over = w .over }
 
 -- nobody has had its turn
 abbrev pub fresh : ℕ → List ℕ → Walked
@@ -66,11 +67,11 @@ module _ (d : ℕ) where
 
 -- the walk: each in its turn. The exclusion of a peer not asked is 0
 unfoldable pub walk : ℕ → ℕ → ℕ → ℕ → ℕ → List ℕ → ℕ → Walked
-walk n own source d available rows alive = foldl (visit d (rowIn rows) alive) (fresh available (replicate n 0)) (turns n own source)
+walk n own source d available rows alive = foldl (visit d (nthRow rows) alive) (fresh available (replicate n 0)) (turns n own source)
 
 -- ---- the entry
 
--- of the length of the lent table
+-- the rows in a table of four words a row; of the length of the lent table of exclusions, which has as many
 abbrev pub gossipCases : ℕ → ℕ → ℕ → ℕ → ℕ → ℕ → List ℕ → ℕ → ℕ → List Case
 gossipCases n own source d w available rows alive exclusions =
     unless (isPopulation n) POPULATION
@@ -78,10 +79,10 @@ gossipCases n own source d w available rows alive exclusions =
     ∷ unless (isReplica n source) REPLICA
     ∷ unless (isShards d w) SHARDS
     ∷ unless (isRow w available) MASK
-    ∷ unless (all (isRow w) rows) MASK
+    ∷ unless (areRows w rows) MASK
     ∷ unless (isMask n alive) MASK
-    ∷ unless (eqb (length rows) n) TABLE
-    ∷ unless (eqb exclusions n) TABLE
+    ∷ unless (isTable n (length rows)) TABLE
+    ∷ unless (isTable n exclusions) TABLE
     ∷ []
 
 unfoldable pub gossipRefusal : ℕ → ℕ → ℕ → ℕ → ℕ → ℕ → List ℕ → ℕ → ℕ → ℕ
@@ -94,9 +95,9 @@ gossiped (Asked m) = accepted m
 
 unfoldable pub gossipOf : ℕ → ℕ → ℕ → ℕ → ℕ → ℕ → List ℕ → ℕ → ℕ → Outcome ℕ
 gossipOf n own source d w available rows alive exclusions =
-    outcome (gossipRefusal n own source d w available rows alive exclusions) (walk n own source d available rows alive .asked)
+    outcome (gossipRefusal n own source d w available rows alive exclusions) (walk n own source d available (rowsIn rows) alive .asked)
 
 -- the table at exit
 unfoldable pub exclusionsLeft : ℕ → ℕ → ℕ → ℕ → ℕ → ℕ → List ℕ → ℕ → List ℕ → List ℕ
 exclusionsLeft n own source d w available rows alive exclusions =
-    written (gossipRefusal n own source d w available rows alive (length exclusions)) (walk n own source d available rows alive .exclusions) exclusions
+    written (gossipRefusal n own source d w available rows alive (length exclusions)) (spelled (walk n own source d available (rowsIn rows) alive .exclusions)) exclusions

@@ -3,12 +3,13 @@ use mathlib.Core.Path.{_≡_, refl, sym, ap, ap₂, subst, _∙_}
 use mathlib.Core.Logic.{_↔_, _⊎_, inl, inr, ⊎-elim}
 use mathlib.Core.Bool.{Bool, true, false, cond, not, _||_, true≢false}
 use mathlib.Core.List.{List, [], _∷_, _++_, foldl, List·Memᴰ, List·Memᴰ·head, List·Memᴰ·tail, List·Memᴰ·not-nil, List·Memᴰ·cases-cons, Memᴰ·append-left}
-use Prim.Native.Nat.{ℕ, _≤_, _<_}
-use native.Mathlib.Decide.{ℕ-discrete}
+use Prim.Native.Nat.{ℕ, _^_, _≤_, _<_}
+use native.Mathlib.Decide.{decLt, ℕ-discrete}
 use native.Mathlib.Omega.{arith}
-use lib.Bits.{bitOr}
+use lib.Bits.{bitOr, or-lt}
 use lib.Dec.{leb}
-use lib.ListN.{length, getD, set, length-set}
+use lib.ListN.{length, getD, set, length-set, List·getD-eq-default}
+use lib.Pow.{pow-pos}
 use lib.Seq.{getD-set-same, getD-set-other}
 use borrow.Author.Tests.{eq-eqb, ne-eqb, leb-true, leb-false}
 use Rattle.bitmap.specs.Mask.{bit, hasBit, withBit, count}
@@ -16,6 +17,15 @@ use Rattle.bitmap.specs.MaskLaws.{bit-with, bit-same, bit-other, Beyond, beyond
 use Rattle.bitmap.specs.CountLaws.{count-within}
 use Rattle.gossip.specs.Gossip.{Walked, met, visit}
 use Rattle.gossip.specs.UnionLaws.{UnionOf, LiveIn, union-within, union-unique, union-none, union-dead, union-live, union-with}
+
+-- a list of rows below a width, with another such row
+set-below : (k : ℕ) (xs : List ℕ) (p a : ℕ) → ((i : ℕ) → getD xs i 0 < 2 ^ k) → a < 2 ^ k → (i : ℕ) → getD (set xs p a) i 0 < 2 ^ k
+set-below k xs p a h l i = go (ℕ-discrete i p) (decLt p (length xs))
+  where
+    go : Dec (i ≡ p) → Dec (p < length xs) → getD (set xs p a) i 0 < 2 ^ k
+    go (yes e) (yes b) = subst (λ (x : ℕ). x < 2 ^ k) (sym (ap (λ (j : ℕ). getD (set xs p a) j 0) e ∙ getD-set-same xs p a 0 b)) l
+    go (yes e) (no b) = subst (λ (x : ℕ). x < 2 ^ k) (sym (List·getD-eq-default (set xs p a) 0 {n = i} (omega (arith, length-set xs p a)))) (pow-pos k)
+    go (no e) b = subst (λ (x : ℕ). x < 2 ^ k) (sym (getD-set-other xs p i a 0 e)) (h i)
 
 module _ (d : ℕ) (row : ℕ → ℕ) (alive : ℕ) where
   -- the turns of ps
@@ -241,6 +251,16 @@ module _ (d : ℕ) (row : ℕ → ℕ) (alive : ℕ) where
   after-length w (p ∷ ps) =
       after-length (visit d row alive w p) ps
       ∙ turn (λ v. length (v .exclusions) ≡ length (w .exclusions)) w p refl (λ o l e. refl) (λ o l b. length-set (w .exclusions) p (w .available))
+
+  -- of rows below a width, what is available and what is to be left out are below it too
+  abbrev pub Narrow : ℕ → Walked → Type 0
+  Narrow k w = (w .available < 2 ^ k) × ((i : ℕ) → getD (w .exclusions) i 0 < 2 ^ k)
+
+  pub after-narrow : (k : ℕ) → ((p : ℕ) → row p < 2 ^ k) → (w : Walked) (ps : List ℕ) → Narrow k w → Narrow k (after w ps)
+  after-narrow k r w [] h = h
+  after-narrow k r w (p ∷ ps) h =
+      after-narrow k r (visit d row alive w p) ps
+      (turn (Narrow k) w p h (λ o l e. h) (λ o l b. (or-lt k (w .available) (row p) (h .0) (r p), set-below k (w .exclusions) p (w .available) (h .1) (h .0))))
 
   -- others' turns change nothing of it
   abbrev pub Kept : ℕ → Walked → Walked → Type 0

@@ -1,13 +1,14 @@
 // Gossip: which peers a replica asks for its missing shards, and which shards it tells each to leave out (gossip_targets_excl).
 ghost use mathlib.Core.Path.{_≡_};
 ghost use mathlib.Core.List.{foldl};
-ghost use Prim.Native.Nat.{_≤_, _<_};
+ghost use Prim.Native.Nat.{_+_, _*_, _≤_, _<_};
 ghost use lib.ListN.{length};
-ghost use Rattle.bitmap.specs.Mask.{rowIn};
+ghost use Rattle.rows.specs.Row.{rowOf, rowIn, rowsIn};
 ghost use Rattle.gossip.specs.Gossip.{walked, fresh, met, visit, round, turns, gossipRefusal, gossiped, gossipOf, exclusionsLeft};
 use bitmap::ReplicaId;
+use rows::Row;
 
-// The peers to ask, as a mask. What each of them is to leave out is in the lent table.
+// The peers to ask, as a mask. What each of them is to leave out is in the lent table, four words a row.
 pub enum Gossip {
     Refused(u8),
     Asked(u64),
@@ -16,7 +17,7 @@ pub enum Gossip {
 // How far the walk has come: those asked, the shards that one will have, and whether the walk is over.
 struct Progress {
     asked: u64,
-    available: u64,
+    available: Row,
     over: bool,
 }
 
@@ -27,13 +28,13 @@ pub fn gossip_targets_excl(
     source: ReplicaId,
     d: usize,
     w: usize,
-    available: u64,
+    available: Row,
     rows: &[u64],
     alive: u64,
     exclusions: &mut [u64],
 ) -> Gossip
-    ensures answer { λ r. ⌜ gossiped r ≡ gossipOf n (own .0) (source .0) d w available (now (rows .entry)) alive (length (now (exclusions .entry))) ⌝ }
-    ensures words { λ r. ⌜ now (exclusions .exit) ≡ exclusionsLeft n (own .0) (source .0) d w available (now (rows .entry)) alive (now (exclusions .entry)) ⌝ }
+    ensures answer { λ r. ⌜ gossiped r ≡ gossipOf n (own .0) (source .0) d w (rowOf available) (now (rows .entry)) alive (length (now (exclusions .entry))) ⌝ }
+    ensures words { λ r. ⌜ now (exclusions .exit) ≡ exclusionsLeft n (own .0) (source .0) d w (rowOf available) (now (rows .entry)) alive (now (exclusions .entry)) ⌝ }
 {
     let no = gossip_refusal(
         n,
@@ -60,12 +61,12 @@ fn gossip_refusal(
     source: ReplicaId,
     d: usize,
     w: usize,
-    available: u64,
+    available: Row,
     rows: &[u64],
     alive: u64,
     exclusions: usize,
 ) -> u8
-    ensures { λ r. ⌜ r ≡ gossipRefusal n (own .0) (source .0) d w available (now (rows .entry)) alive exclusions ⌝ }
+    ensures { λ r. ⌜ r ≡ gossipRefusal n (own .0) (source .0) d w (rowOf available) (now (rows .entry)) alive exclusions ⌝ }
 {
     if !refusals::is_population(n) {
         return refusals::POPULATION;
@@ -88,10 +89,10 @@ fn gossip_refusal(
     if !refusals::is_mask(n, alive) {
         return refusals::MASK;
     }
-    if rows.len() != n {
+    if !refusals::is_table(n, rows.len()) {
         return refusals::TABLE;
     }
-    if exclusions != n {
+    if !refusals::is_table(n, exclusions) {
         return refusals::TABLE;
     }
     0
@@ -103,13 +104,13 @@ fn walk(
     own: ReplicaId,
     source: ReplicaId,
     d: usize,
-    available: u64,
+    available: Row,
     rows: &[u64],
     alive: u64,
     exclusions: &mut [u64],
 ) -> Progress
-    requires { ⌜ (0 < n) × (n ≤ 16) × (own .0 < n) × (source .0 < n) × (length (now rows) ≡ n) × (length (now exclusions) ≡ n) ⌝ }
-    ensures { λ r. ⌜ walked r (now (exclusions .exit)) ≡ foldl (visit d (rowIn (now (rows .entry))) alive) (fresh available (now (exclusions .entry))) (turns n (own .0) (source .0)) ⌝ }
+    requires { ⌜ (0 < n) × (n ≤ 16) × (own .0 < n) × (source .0 < n) × (length (now rows) ≡ n * 4) × (length (now exclusions) ≡ n * 4) ⌝ }
+    ensures { λ r. ⌜ walked r (rowsIn (now (exclusions .exit))) ≡ foldl (visit d (rowIn (now (rows .entry))) alive) (fresh (rowOf available) (rowsIn (now (exclusions .entry)))) (turns n (own .0) (source .0)) ⌝ }
 {
     let rounded = walk_ring(n, own, source, d, available, rows, alive, exclusions);
     if source.0 == own.0 {
@@ -124,13 +125,13 @@ fn walk_ring(
     own: ReplicaId,
     source: ReplicaId,
     d: usize,
-    available: u64,
+    available: Row,
     rows: &[u64],
     alive: u64,
     exclusions: &mut [u64],
 ) -> Progress
-    requires { ⌜ (0 < n) × (n ≤ 16) × (own .0 < n) × (length (now rows) ≡ n) × (length (now exclusions) ≡ n) ⌝ }
-    ensures { λ r. ⌜ walked r (now (exclusions .exit)) ≡ foldl (visit d (rowIn (now (rows .entry))) alive) (fresh available (now (exclusions .entry))) (round n (own .0) (source .0)) ⌝ }
+    requires { ⌜ (0 < n) × (n ≤ 16) × (own .0 < n) × (length (now rows) ≡ n * 4) × (length (now exclusions) ≡ n * 4) ⌝ }
+    ensures { λ r. ⌜ walked r (rowsIn (now (exclusions .exit))) ≡ foldl (visit d (rowIn (now (rows .entry))) alive) (fresh (rowOf available) (rowsIn (now (exclusions .entry)))) (round n (own .0) (source .0)) ⌝ }
 {
     let mut so_far = Progress {
         asked: 0,
@@ -160,8 +161,8 @@ fn visit(
     p: ReplicaId,
     exclusions: &mut [u64],
 ) -> Progress
-    requires { ⌜ (p .0 < 64) × (p .0 < length (now rows)) × (length (now exclusions) ≡ length (now rows)) ⌝ }
-    ensures { λ r. ⌜ walked r (now (exclusions .exit)) ≡ visit d (rowIn (now (rows .entry))) alive (walked «so_far» (now (exclusions .entry))) (p .0) ⌝ }
+    requires { ⌜ (p .0 < 64) × (p .0 * 4 + 4 ≤ length (now rows)) × (length (now exclusions) ≡ length (now rows)) ⌝ }
+    ensures { λ r. ⌜ walked r (rowsIn (now (exclusions .exit))) ≡ visit d (rowIn (now (rows .entry))) alive (walked «so_far» (rowsIn (now (exclusions .entry)))) (p .0) ⌝ }
 {
     if so_far.over {
         return so_far;
@@ -169,27 +170,25 @@ fn visit(
     if !bitmap::has_replica(alive, p) {
         return so_far;
     }
-    let k = p.0;
-    meet(d, rows[k], so_far, p, exclusions)
+    meet(d, rows::row_in(rows, p.0), so_far, p, exclusions)
 }
 
 // A live peer with that row: it is asked if a shard of it is missing, and is to leave out what was available before it.
-fn meet(d: usize, row: u64, so_far: Progress, p: ReplicaId, exclusions: &mut [u64]) -> Progress
-    requires { ⌜ (p .0 < 64) × (p .0 < length (now exclusions)) ⌝ }
-    ensures { λ r. ⌜ walked r (now (exclusions .exit)) ≡ met d row (walked «so_far» (now (exclusions .entry))) (p .0) ⌝ }
+fn meet(d: usize, row: Row, so_far: Progress, p: ReplicaId, exclusions: &mut [u64]) -> Progress
+    requires { ⌜ (p .0 < 64) × (p .0 * 4 + 4 ≤ length (now exclusions)) ⌝ }
+    ensures { λ r. ⌜ walked r (rowsIn (now (exclusions .exit))) ≡ met d (rowOf row) (walked «so_far» (rowsIn (now (exclusions .entry)))) (p .0) ⌝ }
 {
     let before = so_far.available;
-    let available = bitmap::union(before, row);
-    let over = d <= bitmap::count(available);
-    if available == before {
+    let available = rows::union(before, row);
+    let over = d <= rows::count(available);
+    if rows::same(available, before) {
         return Progress {
             asked: so_far.asked,
             available,
             over,
         };
     }
-    let k = p.0;
-    exclusions[k] = before;
+    rows::put(before, exclusions, p.0);
     Progress {
         asked: bitmap::with_replica(so_far.asked, p),
         available,

@@ -2,13 +2,14 @@
 use mathlib.Core.Path.{_≡_, refl}
 use mathlib.Core.Bool.{Bool, true, false}
 use mathlib.Core.List.{List, [], _∷_, map}
-use Prim.Native.Nat.{ℕ}
+use Prim.Native.Nat.{ℕ, _+_, _-_, _*_, _^_}
 use lib.ListN.{replicate}
 use Rattle.lists.specs.Below.{eachBelow}
 use Rattle.bitmap.specs.Mask.{count, gather}
 use Rattle.refusals.specs.Outcome.{Outcome, refused, accepted}
 use Rattle.refusals.specs.Limits.{isPopulation, isShards, isQuorum, isFaultList}
 use Rattle.coverage.specs.Coverage.{unionOf, leaves, isCovered, commits}
+use Rattle.rows.specs.Row.{value, wordsOf, spelled}
 use Rattle.layout.specs.declared.TotalShards.{TotalShards}
 use Rattle.layout.specs.declared.TotalShards.the-variants.{Exactly, AtMost}
 use Rattle.layout.specs.Layout.{widthOf, rowFor, rowsOf, layoutCommits, heardLoads, rowsRefusal, layoutRowsOf, rowsWritten, commitsRefusal, layoutCommitsOf, trialWritten}
@@ -16,6 +17,11 @@ use Rattle.layout.specs.Layout.{widthOf, rowFor, rowsOf, layoutCommits, 
 -- the lent words: k of them, each 99
 lent : ℕ → List ℕ
 lent k = replicate k 99
+
+-- the words at exit: those of the rows that are written, or what the buffer held
+table : {A : Type 0} → Outcome A → ℕ → List ℕ → List ℕ
+table (accepted a) room rows = spelled rows
+table (refused k) room rows = lent room
 
 -- ---- `layout_rows`: the population, the data shards, the total, the loads, how many words are lent; then the answer, and the words at exit
 record Line : Type 0 where
@@ -27,7 +33,7 @@ record Line : Type 0 where
   says : Outcome ℕ × List ℕ
 
 line : ℕ → ℕ → TotalShards → List ℕ → ℕ → Outcome ℕ → List ℕ → Line
-line n d total loads room answer words = record { n = n; d = d; total = total; loads = loads; room = room; says = (answer, words) }
+line n d total loads room answer words = record { n = n; d = d; total = total; loads = loads; room = room * 4; says = (answer, table answer (room * 4) words) }
 
 sheet : List Line
 unfolding lent line
@@ -51,13 +57,15 @@ sheet =
     ∷ line 1 2 (AtMost 64) (1 ∷ []) 1 (accepted 2) (1 ∷ [])
     ∷ line 2 64 (AtMost 64) (64 ∷ 63 ∷ []) 2 (accepted 64) (0xffff_ffff_ffff_ffff ∷ 0x7fff_ffff_ffff_ffff ∷ [])
     ∷ line 2 64 (Exactly 64) (40 ∷ 40 ∷ []) 2 (accepted 64) (0xff_ffff_ffff ∷ 0xffff_ff00_0000_ffff ∷ [])
+    -- rows of four words: one that wraps round at 255, and one that is full
+    ∷ line 3 255 (Exactly 255) (200 ∷ 100 ∷ 255 ∷ []) 3 (accepted 255) ((2 ^ 200 - 1) ∷ (2 ^ 255 - 2 ^ 200 + 2 ^ 45 - 1) ∷ (2 ^ 255 - 1) ∷ [])
     -- the population; the shards; the loads' length; the rows'
     ∷ line 0 2 (AtMost 4) [] 0 (refused 1) []
     ∷ line 17 2 (AtMost 4) (replicate 17 1) 17 (refused 1) (lent 17)
     ∷ line 3 0 (AtMost 4) (1 ∷ 1 ∷ 1 ∷ []) 3 (refused 4) (lent 3)
     ∷ line 3 2 (AtMost 1) (1 ∷ 1 ∷ 1 ∷ []) 3 (refused 4) (lent 3)
     ∷ line 3 2 (Exactly 1) (1 ∷ 1 ∷ 1 ∷ []) 3 (refused 4) (lent 3)
-    ∷ line 3 2 (AtMost 65) (1 ∷ 1 ∷ 1 ∷ []) 3 (refused 4) (lent 3)
+    ∷ line 3 2 (AtMost 256) (1 ∷ 1 ∷ 1 ∷ []) 3 (refused 4) (lent 3)
     ∷ line 3 2 (AtMost 4) (1 ∷ 1 ∷ []) 3 (refused 17) (lent 3)
     ∷ line 3 2 (AtMost 4) (1 ∷ 1 ∷ 1 ∷ []) 2 (refused 17) (lent 2)
     ∷ line 3 2 (AtMost 4) (1 ∷ 1 ∷ 1 ∷ []) 4 (refused 17) (lent 4)
@@ -70,7 +78,7 @@ laid : Line → Outcome ℕ × List ℕ
 laid l = (layoutRowsOf (l .n) (l .d) (l .total) (l .loads) (l .room), rowsWritten (l .n) (l .d) (l .total) (l .loads) (lent (l .room)))
 
 rows : map laid sheet ≡ map (λ (l : Line). l .says) sheet
-unfolding lent line sheet laid layoutRowsOf rowsWritten rowsRefusal isPopulation isShards widthOf rowsOf rowFor eachBelow gather
+unfolding value wordsOf spelled table lent line sheet laid layoutRowsOf rowsWritten rowsRefusal isPopulation isShards widthOf rowsOf rowFor eachBelow gather
 rows = refl
 
 -- ---- `layout_commits`: the quorum, those that answer and the fault list too
@@ -92,7 +100,7 @@ record Trial : Type 0 where
 
 trial : ℕ → ℕ → ℕ → TotalShards → ℕ → List ℕ → List ℕ → ℕ → Outcome (ℕ × Bool) → List ℕ → Trial
 trial n quorum d total answered loads faults room answer words =
-    record { n = n; quorum = quorum; d = d; total = total; answered = answered; loads = loads; faults = faults; room = room; says = (answer, words) }
+    record { n = n; quorum = quorum; d = d; total = total; answered = answered; loads = loads; faults = faults; room = room * 4; says = (answer, table answer (room * 4) words) }
 
 trials : List Trial
 unfolding lent ones trial
@@ -134,6 +142,6 @@ tested t = (
 )
 
 answers : map tested trials ≡ map (λ (t : Trial). t .says) trials
-unfolding lent ones trial trials tested layoutCommitsOf trialWritten commitsRefusal isPopulation isShards isQuorum isFaultList heardLoads
+unfolding value wordsOf spelled table lent ones trial trials tested layoutCommitsOf trialWritten commitsRefusal isPopulation isShards isQuorum isFaultList heardLoads
     layoutCommits commits isCovered leaves unionOf count widthOf rowsOf rowFor eachBelow gather
 answers = refl

@@ -10,6 +10,7 @@ use lib.ListN.{length, getD, take}
 use lib.Seq.{take-all, length-take-le}
 use Rattle.layout.specs.Layout.{dealt, partial, rowFor, rowAt}
 use Rattle.layout.specs.LayoutLaws.{partial-upto, partial-le}
+use Rattle.refusals.specs.Limits.{mostShards}
 
 -- ---- a load k: a is whether the replica answers
 pub answers : (h a : Bool) (k : ℕ) → a ≡ h → a ≡ true → k ≡ cond h k 0
@@ -26,9 +27,9 @@ module _ (d : ℕ) (loads : List ℕ) (s sum : ℕ) (summed : sum ≡ partial d 
     sum-more = rw (add-one, partial-upto d loads s h) (cc)
 
     -- which fits a word
-    pub sum-small : d ≤ 64 → length loads ≤ 16 → sum + k ≤ 1024
+    pub sum-small : d ≤ mostShards → length loads ≤ 16 → sum + k ≤ 4080
     sum-small g l =
-        let b = partial-le d 64 (take (s + 1) loads) g in
+        let b = partial-le d 255 (take (s + 1) loads) g in
         omega (arith, sum-more, length-take-le (s + 1) loads (omega arith))
 
   pub sum-done : length loads ≤ s → sum ≡ partial d loads

@@ -5,11 +5,12 @@ use Prim.Native.Nat.{ℕ, _+_, _≤_, min, max}
 use lib.Dec.{ltb, eqb}
 use lib.ListN.{length, getD, take}
 use Rattle.lists.specs.Below.{eachBelow}
-use Rattle.bitmap.specs.Mask.{hasBit, run, runModulo, rowIn}
+use Rattle.bitmap.specs.Mask.{hasBit, run, runModulo, nthRow}
+use Rattle.rows.specs.Row.{spelled}
 use Rattle.refusals.specs.Numbers.{POPULATION, SHARDS, QUORUM, MASK, TABLE}
 use Rattle.refusals.specs.First.{Case, unless, firstOf}
 use Rattle.refusals.specs.Outcome.{Outcome, refused, accepted, outcome, written}
-use Rattle.refusals.specs.Limits.{isPopulation, isShards, isQuorum, isMask, isFaultList}
+use Rattle.refusals.specs.Limits.{mostShards, isPopulation, isShards, isQuorum, isMask, isTable, isFaultList}
 use Rattle.coverage.specs.Coverage.{commits}
 use Rattle.layout.specs.declared.TotalShards.{TotalShards}
 use Rattle.layout.specs.declared.TotalShards.the-variants.{Exactly, AtMost}
@@ -22,7 +23,7 @@ use Rattle.layout.specs.declared.Tested.the-variants as Testing
 
 -- data shards and a width, or its ceiling, that have been tested
 abbrev pub Fit : ℕ → ℕ → Type 0
-Fit d w = (1 ≤ d) × (d ≤ w) × (w ≤ 64)
+Fit d w = (1 ≤ d) × (d ≤ w) × (w ≤ mostShards)
 
 -- the exact width, or its ceiling
 abbrev pub bound : TotalShards → ℕ
@@ -63,7 +64,7 @@ rowsOf d total loads = eachBelow (rowAt d (widthOf d total loads) loads) (length
 
 -- the layout commits: at least a quorum answers, and coverage holds
 unfoldable pub layoutCommits : ℕ → ℕ → ℕ → TotalShards → ℕ → List ℕ → List ℕ → Bool
-layoutCommits n quorum d total answered faults loads = commits n quorum d answered (rowIn (rowsOf d total loads)) faults
+layoutCommits n quorum d total answered faults loads = commits n quorum d answered (nthRow (rowsOf d total loads)) faults
 
 -- a replica that does not answer has load 0, whatever stands in its place
 abbrev pub heardLoad : ℕ → List ℕ → ℕ → ℕ
@@ -79,7 +80,7 @@ rowsCases n d total loads rows =
     unless (isPopulation n) POPULATION
     ∷ unless (isShards d (bound total)) SHARDS
     ∷ unless (eqb loads n) TABLE
-    ∷ unless (eqb rows n) TABLE
+    ∷ unless (isTable n rows) TABLE
     ∷ []
 
 -- of the lengths of the two tables
@@ -94,7 +95,7 @@ commitsCases n quorum d total answered loads faults rows =
     ∷ unless (isMask n answered) MASK
     ∷ unless (eqb loads n) TABLE
     ∷ unless (isFaultList n faults) TABLE
-    ∷ unless (eqb rows n) TABLE
+    ∷ unless (isTable n rows) TABLE
     ∷ []
 
 unfoldable pub commitsRefusal : ℕ → ℕ → ℕ → TotalShards → ℕ → ℕ → List ℕ → ℕ → ℕ
@@ -114,7 +115,7 @@ layoutRowsOf n d total loads rows = outcome (rowsRefusal n d total (length loads
 
 -- the table at exit
 unfoldable pub rowsWritten : ℕ → ℕ → TotalShards → List ℕ → List ℕ → List ℕ
-rowsWritten n d total loads rows = written (rowsRefusal n d total (length loads) (length rows)) (rowsOf d total loads) rows
+rowsWritten n d total loads rows = written (rowsRefusal n d total (length loads) (length rows)) (spelled (rowsOf d total loads)) rows
 
 module _ (n quorum d : ℕ) (total : TotalShards) (answered : ℕ) (loads faults : List ℕ) where
   abbrev heard : List ℕ
@@ -126,4 +127,4 @@ module _ (n quorum d : ℕ) (total : TotalShards) (answered : ℕ) (loads faults
 
   -- the table at exit, also where it does not commit
   unfoldable pub trialWritten : List ℕ → List ℕ
-  trialWritten rows = written (commitsRefusal n quorum d total answered (length loads) faults (length rows)) (rowsOf d total heard) rows
+  trialWritten rows = written (commitsRefusal n quorum d total answered (length loads) faults (length rows)) (spelled (rowsOf d total heard)) rows

@@ -5,24 +5,29 @@ use mathlib.Core.Logic.{_↔_}
 use mathlib.Core.Bool.{Bool, true, false, cond}
 use mathlib.Core.List.{List, [], _∷_, _++_}
 use Prim.Native.Nat.{ℕ, suc, _+_, _*_, _%_, _^_, _≤_, _<_, min, max}
-use native.Mathlib.Nat.{le-refl, mod-eq-of-lt}
+use native.Mathlib.Nat.{le-refl, lt-of-lt-of-le, mod-eq-of-lt}
 use native.Mathlib.Decide.{decLt, le-ind}
 use native.Mathlib.Omega.{arith}
 use lib.Dec.{ltb}
-use lib.ListN.{length, getD, take, length-append, List·getD-append}
-use lib.Pow.{pow-mono, ones-lt}
+use lib.ListN.{length, getD, take, length-append, List·getD-append, List·getD-eq-default}
+use lib.Pow.{pow-pos, pow-mono, ones-lt}
 use lib.Seq.{take-suc, take-length, take-append-le, take-append-add, getD-append-add}
 use borrow.Author.Tests.{ltb-true, ltb-false, lt-ltb, le-ltb, eq-eqb, ne-eqb}
 use Rattle.lists.specs.All.{all}
+use Rattle.lists.specs.AllLaws.{all-means}
 use Rattle.lists.specs.BelowLaws.{each-below-length, each-below-at, each-below-all}
-use Rattle.bitmap.specs.Mask.{bit, count, run, runModulo, rowIn}
+use Rattle.bitmap.specs.Mask.{bit, count, run, runModulo, nthRow}
 use Rattle.bitmap.specs.Members.{Many}
 use Rattle.bitmap.specs.RunLaws.{Among, run-all, gather-means}
 use Rattle.bitmap.specs.WidthLaws.{run-below}
 use Rattle.bitmap.specs.RunCounts.{run-count, run-modulo-count}
+use Rattle.rows.specs.Row.{spelled, rowIn, rowsIn}
+use Rattle.rows.specs.TableLaws.{Rows, spelled-row, spelled-rows, row-below as table-row-below}
 use Rattle.refusals.specs.Outcome.{accepted}
 use Rattle.refusals.specs.OutcomeLaws.{accepted-means}
 use Rattle.refusals.specs.Limits.{isRow}
+use Rattle.refusals.specs.LimitLaws.{rows-small as table-small}
+use Rattle.coverage.specs.Coverage.{RowsBelow, commits}
 use Rattle.coverage.specs.CoverageLaws.{Survives, commits-means}
 use Rattle.layout.specs.declared.TotalShards.{TotalShards}
 use Rattle.layout.specs.declared.TotalShards.the-variants.{Exactly, AtMost}
@@ -142,23 +147,23 @@ module _ (d : ℕ) (total : TotalShards) (loads : List ℕ) where
   unfolding rowsOf
   rows-length = each-below-length (rowAt d (widthOf d total loads) loads) (length loads)
 
-  pub row-at : (s : ℕ) → s < length loads → rowIn (rowsOf d total loads) s ≡ rowAt d (widthOf d total loads) loads s
+  pub row-at : (s : ℕ) → s < length loads → nthRow (rowsOf d total loads) s ≡ rowAt d (widthOf d total loads) loads s
   unfolding rowsOf
   row-at s l = each-below-at (rowAt d (widthOf d total loads) loads) (length loads) s 0 l
 
   -- that of a full load is the shards 0 to d - 1
-  pub rows-full : (s : ℕ) → s < length loads → d ≤ getD loads s 0 → rowIn (rowsOf d total loads) s ≡ run 0 d
+  pub rows-full : (s : ℕ) → s < length loads → d ≤ getD loads s 0 → nthRow (rowsOf d total loads) s ≡ run 0 d
   rows-full s l h = row-at s l ∙ row-full d (widthOf d total loads) (partial d (take s loads)) (getD loads s 0) h
 
   -- that of another load is so many shards from what was dealt before it on, modulo the width
   pub rows-dealt : (s : ℕ) → s < length loads → getD loads s 0 < d → (x : ℕ)
-      → (bit (rowIn (rowsOf d total loads) s) x ≡ 1)
+      → (bit (nthRow (rowsOf d total loads) s) x ≡ 1)
       ↔ Among (λ (i : ℕ). (partial d (take s loads) + i) % widthOf d total loads) (getD loads s 0) x
   unfolding rowFor
   rows-dealt s l h x =
       let w = widthOf d total loads in
       let k = getD loads s 0 in
-      let e : rowIn (rowsOf d total loads) s ≡ runModulo w (partial d (take s loads)) k =
+      let e : nthRow (rowsOf d total loads) s ≡ runModulo w (partial d (take s loads)) k =
       row-at s l ∙ ap (λ (b : Bool). cond b (runModulo w (partial d (take s loads)) k) (run 0 d)) (lt-ltb k d h) in
       let m = gather-means (λ (i : ℕ). (partial d (take s loads) + i) % w) x k in
       (λ t. m .0 (ap (λ (r : ℕ). bit r x) (sym e) ∙ t), λ t. ap (λ (r : ℕ). bit r x) e ∙ m .1 t)
@@ -173,9 +178,27 @@ module _ (d : ℕ) (total : TotalShards) (loads : List ℕ) where
         (λ s l. row-below d w (partial d (take s loads)) (getD loads s 0) (width-fits d total loads h))
 
     -- a replica has as many different shards as its load, and d where that is more
-    pub rows-count : (s : ℕ) → s < length loads → count (rowIn (rowsOf d total loads) s) ≡ min (getD loads s 0) d
+    pub rows-count : (s : ℕ) → s < length loads → count (nthRow (rowsOf d total loads) s) ≡ min (getD loads s 0) d
     rows-count s l =
         ap count (row-at s l) ∙ row-count d (widthOf d total loads) (partial d (take s loads)) (getD loads s 0) (width-fits d total loads h)
+
+    -- and so each has room in four words
+    pub rows-small : Rows (rowsOf d total loads)
+    rows-small =
+        table-small (length loads) (widthOf d total loads) (rowsOf d total loads) (rows-length, rows-below) (width-fits d total loads h .2)
+
+    -- in the table that is spelled from them no shard is at or above the width
+    pub spelled-below : (n : ℕ) → RowsBelow n (widthOf d total loads) (rowIn (spelled (rowsOf d total loads)))
+    spelled-below n s l =
+        table-row-below (widthOf d total loads) (spelled (rowsOf d total loads))
+        (all-means (isRow (widthOf d total loads)) 0 (rowsIn (spelled (rowsOf d total loads))) .0
+        (ap (all (isRow (widthOf d total loads))) (spelled-rows (rowsOf d total loads) rows-small) ∙ rows-below)) s
+
+    -- and it commits as they do
+    pub spelled-commits : (n quorum answered : ℕ) (faults : List ℕ)
+        → commits n quorum d answered (rowIn (spelled (rowsOf d total loads))) faults ≡ layoutCommits n quorum d total answered faults loads
+    unfolding layoutCommits
+    spelled-commits n quorum answered faults i = commits n quorum d answered (λ (s : ℕ). spelled-row (rowsOf d total loads) rows-small s i) faults
 
 -- ---- without a replica that has a full load the width and the rows of all others are the same
 module _ (d : ℕ) (total : TotalShards) (us vs : List ℕ) (k : ℕ) (full : d ≤ k) where
@@ -184,7 +207,7 @@ module _ (d : ℕ) (total : TotalShards) (us vs : List ℕ) (k : ℕ) (full : d 
   width-without = ap (widthFor d total) (partial-without d us vs k full)
 
   -- the rows of those before it
-  pub rows-before : (s : ℕ) → s < length us → rowIn (rowsOf d total (us ++ (k ∷ vs))) s ≡ rowIn (rowsOf d total (us ++ vs)) s
+  pub rows-before : (s : ℕ) → s < length us → nthRow (rowsOf d total (us ++ (k ∷ vs))) s ≡ nthRow (rowsOf d total (us ++ vs)) s
   rows-before s l =
       let h : s ≤ length us = omega arith in
       rw (
@@ -199,7 +222,7 @@ module _ (d : ℕ) (total : TotalShards) (us vs : List ℕ) (k : ℕ) (full : d 
 
   -- and of those after it
   pub rows-after : (i : ℕ) → i < length vs
-      → rowIn (rowsOf d total (us ++ (k ∷ vs))) (length us + suc i) ≡ rowIn (rowsOf d total (us ++ vs)) (length us + i)
+      → nthRow (rowsOf d total (us ++ (k ∷ vs))) (length us + suc i) ≡ nthRow (rowsOf d total (us ++ vs)) (length us + i)
   rows-after i l =
       rw (
         row-at d total (us ++ (k ∷ vs)) (length us + suc i) (omega (arith, length-append us (k ∷ vs))),
@@ -224,7 +247,7 @@ dealt-from d w offset k s h l e =
 
 pub rows-apart : (d : ℕ) (total : TotalShards) (loads : List ℕ) → partial d loads ≤ widthOf d total loads
     → (i j s : ℕ) → i < j → j < length loads → getD loads i 0 < d → getD loads j 0 < d
-    → bit (rowIn (rowsOf d total loads) i) s ≡ 1 → bit (rowIn (rowsOf d total loads) j) s ≡ 1 → ⊥
+    → bit (nthRow (rowsOf d total loads) i) s ≡ 1 → bit (nthRow (rowsOf d total loads) j) s ≡ 1 → ⊥
 rows-apart d total loads fits i j s h l p q e f =
     let w = widthOf d total loads in
     let whole : partial d (take (length loads) loads) ≤ w = rw take-length fits in
@@ -264,9 +287,9 @@ pub layout-rows-means : (n d : ℕ) (total : TotalShards) (loads : List ℕ) (ro
 unfolding layoutRowsOf
 layout-rows-means n d total loads rows w = accepted-means (rowsRefusal n d total (length loads) rows) (widthOf d total loads) w
 
--- and its table then holds the rows
+-- and its table then holds the rows, four words a row
 pub rows-written : (n d : ℕ) (total : TotalShards) (loads rows : List ℕ) → rowsRefusal n d total (length loads) (length rows) ≡ 0
-    → rowsWritten n d total loads rows ≡ rowsOf d total loads
+    → rowsWritten n d total loads rows ≡ spelled (rowsOf d total loads)
 unfolding rowsWritten
 rows-written n d total loads rows e = rw e
 
@@ -277,13 +300,13 @@ pub layout-commits-means : (n quorum d : ℕ) (total : TotalShards) (answered : 
     ↔ ((commitsRefusal n quorum d total answered (length loads) faults rows ≡ 0)
     × (widthOf d total (heardLoads answered loads) ≡ w)
     × Many quorum (λ s. bit answered s ≡ 1)
-    × Survives n d answered (rowIn (rowsOf d total (heardLoads answered loads))) faults)
+    × Survives n d answered (nthRow (rowsOf d total (heardLoads answered loads))) faults)
 unfolding layoutCommitsOf layoutCommits
 layout-commits-means n quorum d total answered loads faults rows w =
     let heard = heardLoads answered loads in
     let k = commitsRefusal n quorum d total answered (length loads) faults rows in
     let m = accepted-means {A = ℕ × Bool} k (widthOf d total heard, layoutCommits n quorum d total answered faults heard) (w, true) in
-    let c = commits-means n quorum d answered (rowIn (rowsOf d total heard)) faults in (
+    let c = commits-means n quorum d answered (nthRow (rowsOf d total heard)) faults in (
       λ e. let q = c .0 (ap (λ (p : ℕ × Bool). p .1) (m .0 e .1)) in (m .0 e .0, ap (λ (p : ℕ × Bool). p .0) (m .0 e .1), q .0, q .1),
       λ h. m .1 (h .0, ap₂ (λ (x : ℕ) (y : Bool). (x, y)) (h .1) (c .1 (h .2, h .3))),
     )
@@ -291,6 +314,6 @@ layout-commits-means n quorum d total answered loads faults rows w =
 -- its table holds the rows of those that answer, also where it does not commit
 pub trial-written : (n quorum d : ℕ) (total : TotalShards) (answered : ℕ) (loads faults rows : List ℕ)
     → commitsRefusal n quorum d total answered (length loads) faults (length rows) ≡ 0
-    → trialWritten n quorum d total answered loads faults rows ≡ rowsOf d total (heardLoads answered loads)
+    → trialWritten n quorum d total answered loads faults rows ≡ spelled (rowsOf d total (heardLoads answered loads))
 unfolding trialWritten
 trial-written n quorum d total answered loads faults rows e = rw e

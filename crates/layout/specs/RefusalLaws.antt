@@ -2,7 +2,7 @@
 use mathlib.Core.Path.{_≡_, refl}
 use mathlib.Core.Logic.{_↔_}
 use mathlib.Core.List.{List}
-use Prim.Native.Nat.{ℕ, _^_, _≤_, _<_}
+use Prim.Native.Nat.{ℕ, _*_, _^_, _≤_, _<_}
 use borrow.Author.Tests.{eqb-true, eq-eqb, ltb-true, lt-ltb, not-false}
 use Rattle.refusals.specs.FirstLaws.{none-holds}
 use Rattle.refusals.specs.LimitLaws.{population-means, shards-means, quorum-means, fault-list-means}
@@ -16,7 +16,7 @@ module _ (n d : ℕ) (total : TotalShards) (loads rows : ℕ) where
     pub population : (1 ≤ n) × (n ≤ 16)
     pub shards : Fit d (bound total)
     pub each-load : loads ≡ n
-    pub table : rows ≡ n
+    pub table : rows ≡ n * 4
 
   pub rows-sound : (rowsRefusal n d total loads rows ≡ 0) ↔ Sound
   unfolding rowsRefusal
@@ -27,14 +27,14 @@ module _ (n d : ℕ) (total : TotalShards) (loads rows : ℕ) where
           population = population-means n .0 (not-false _ (h .0));
           shards = shards-means d (bound total) .0 (not-false _ (h .1 .0));
           each-load = eqb-true loads n (not-false _ (h .1 .1 .0));
-          table = eqb-true rows n (not-false _ (h .1 .1 .1 .0));
+          table = eqb-true rows (n * 4) (not-false _ (h .1 .1 .1 .0));
         },
     λ s.
         simp (
           population-means n .1 (s .population),
           shards-means d (bound total) .1 (s .shards),
           eq-eqb loads n (s .each-load),
-          eq-eqb rows n (s .table),
+          eq-eqb rows (n * 4) (s .table),
         ),
   )
 
@@ -47,7 +47,7 @@ module _ (n quorum d : ℕ) (total : TotalShards) (answered loads : ℕ) (faults
     pub mask : answered < 2 ^ n
     pub each-load : loads ≡ n
     pub list : FaultList n faults
-    pub table : rows ≡ n
+    pub table : rows ≡ n * 4
 
   pub trial-sound : (commitsRefusal n quorum d total answered loads faults rows ≡ 0) ↔ Trial
   unfolding commitsRefusal
@@ -61,7 +61,7 @@ module _ (n quorum d : ℕ) (total : TotalShards) (answered loads : ℕ) (faults
           mask = ltb-true answered (2 ^ n) (not-false _ (h .1 .1 .1 .0));
           each-load = eqb-true loads n (not-false _ (h .1 .1 .1 .1 .0));
           list = fault-list-means n faults .0 (not-false _ (h .1 .1 .1 .1 .1 .0));
-          table = eqb-true rows n (not-false _ (h .1 .1 .1 .1 .1 .1 .0));
+          table = eqb-true rows (n * 4) (not-false _ (h .1 .1 .1 .1 .1 .1 .0));
         },
     λ s.
         simp (
@@ -71,6 +71,6 @@ module _ (n quorum d : ℕ) (total : TotalShards) (answered loads : ℕ) (faults
           lt-ltb answered (2 ^ n) (s .mask),
           eq-eqb loads n (s .each-load),
           fault-list-means n faults .1 (s .list),
-          eq-eqb rows n (s .table),
+          eq-eqb rows (n * 4) (s .table),
         ),
   )

@@ -1,12 +1,16 @@
 // Layouts: the rows that given loads come to, and whether replies from those that answer commit (layout_rows, layout_commits).
 ghost use mathlib.Core.Path.{_≡_};
 ghost use mathlib.Core.Bool.{cond};
-ghost use Prim.Native.Nat.{_<_, _≤_, min, max};
+ghost use Prim.Native.Nat.{_*_, _<_, _≤_, min, max};
 ghost use lib.ListN.{length};
 ghost use Rattle.lists.specs.Below.{eachBelow, front};
 ghost use Rattle.bitmap.specs.Mask.{hasBit};
+ghost use Rattle.rows.specs.Row.{rowOf, spelled};
+ghost use Rattle.refusals.specs.Limits.{mostShards};
 ghost use Rattle.layout.specs.Layout.{Fit, bound, dealt, partial, widthOf, rowFor, rowAt, rowsOf, heardLoads, layoutCommits, rowsRefusal, commitsRefusal, laid, tested, layoutRowsOf, layoutCommitsOf, rowsWritten, trialWritten};
 use bitmap::ReplicaId;
+use rows::Row;
+use rows::ShardId;
 
 // The number of shards to lay rows out in: exactly that of an existing code scheme, or at most a bound for a new one.
 pub enum TotalShards {
@@ -74,15 +78,15 @@ pub fn layout_commits(
     let mut heard = [0usize; 16];
     heard_loads(answered, loads, &mut heard[..n]);
     let width = lay(d, total, &heard[..n], rows);
-    let commits = coverage::commits(n, quorum, d, answered, rows, faults);
+    let commits = coverage::commits(n, quorum, d, width, answered, rows, faults);
     Tested::Layout { width, commits }
 }
 
-// Lays the loads out at the front of the table, and gives the width. A part: the shards have been tested, and there is a word for each load.
+// Lays the loads out at the front of the table, and gives the width. A part: the shards have been tested, and there are four words for each load.
 pub fn lay(d: usize, total: TotalShards, loads: &[usize], rows: &mut [u64]) -> usize
-    requires { ⌜ Fit d (bound total) × (length (now loads) ≤ 16) × (length (now loads) ≤ length (now rows)) ⌝ }
+    requires { ⌜ Fit d (bound total) × (length (now loads) ≤ 16) × (length (now loads) * 4 ≤ length (now rows)) ⌝ }
     ensures width { λ r. ⌜ r ≡ widthOf d total (now (loads .entry)) ⌝ }
-    ensures words { λ r. ⌜ now (rows .exit) ≡ front (rowsOf d total (now (loads .entry))) (now (rows .entry)) ⌝ }
+    ensures words { λ r. ⌜ now (rows .exit) ≡ front (spelled (rowsOf d total (now (loads .entry)))) (now (rows .entry)) ⌝ }
 {
     let w = width_of(d, total, loads);
     deal(d, w, loads, rows);
@@ -102,9 +106,10 @@ pub fn commits(
     requires { ⌜ Fit d (bound total) × (length (now loads) ≡ n) × (n ≤ 16) ⌝ }
     ensures { λ r. ⌜ r ≡ layoutCommits n quorum d total answered (now (faults .entry)) (now (loads .entry)) ⌝ }
 {
-    let mut rows = [0u64; 16];
-    lay(d, total, loads, &mut rows[..n]);
-    coverage::commits(n, quorum, d, answered, &rows[..n], faults)
+    let mut rows = [0u64; 64];
+    let m = n * 4;
+    let width = lay(d, total, loads, &mut rows[..m]);
+    coverage::commits(n, quorum, d, width, answered, &rows[..m], faults)
 }
 
 fn rows_refusal(n: usize, d: usize, total: TotalShards, loads: usize, rows: usize) -> u8
@@ -119,7 +124,7 @@ fn rows_refusal(n: usize, d: usize, total: TotalShards, loads: usize, rows: usiz
     if loads != n {
         return refusals::TABLE;
     }
-    if rows != n {
+    if !refusals::is_table(n, rows) {
         return refusals::TABLE;
     }
     0
@@ -155,7 +160,7 @@ fn commits_refusal(
     if !refusals::is_fault_list(n, faults) {
         return refusals::TABLE;
     }
-    if rows != n {
+    if !refusals::is_table(n, rows) {
         return refusals::TABLE;
     }
     0
@@ -173,7 +178,7 @@ pub fn bound(total: TotalShards) -> usize
 
 // The width that the loads are laid out in.
 fn width_of(d: usize, total: TotalShards, loads: &[usize]) -> usize
-    requires { ⌜ (d ≤ 64) × (length (now loads) ≤ 16) ⌝ }
+    requires { ⌜ (d ≤ mostShards) × (length (now loads) ≤ 16) ⌝ }
     ensures { λ r. ⌜ r ≡ widthOf d total (now (loads .entry)) ⌝ }
 {
     match total {
@@ -192,7 +197,7 @@ fn within(sum: usize, d: usize, w: usize) -> usize
 
 // The loads below d, summed.
 fn partial(d: usize, loads: &[usize]) -> usize
-    requires { ⌜ (d ≤ 64) × (length (now loads) ≤ 16) ⌝ }
+    requires { ⌜ (d ≤ mostShards) × (length (now loads) ≤ 16) ⌝ }
     ensures { λ r. ⌜ r ≡ partial d (now (loads .entry)) ⌝ }
 {
     let mut sum = 0;
@@ -213,26 +218,39 @@ fn dealt(d: usize, k: usize) -> usize
 
 // Deals the shards of a width to the loads in turn.
 fn deal(d: usize, w: usize, loads: &[usize], rows: &mut [u64])
-    requires { ⌜ Fit d w × (length (now loads) ≤ 16) × (length (now loads) ≤ length (now rows)) ⌝ }
-    ensures { λ _. ⌜ now (rows .exit) ≡ front (eachBelow (rowAt d w (now (loads .entry))) (length (now (loads .entry)))) (now (rows .entry)) ⌝ }
+    requires { ⌜ Fit d w × (length (now loads) ≤ 16) × (length (now loads) * 4 ≤ length (now rows)) ⌝ }
+    ensures { λ _. ⌜ now (rows .exit) ≡ front (spelled (eachBelow (rowAt d w (now (loads .entry))) (length (now (loads .entry))))) (now (rows .entry)) ⌝ }
 {
-    let mut offset = 0;
+    let mut offset = ShardId(0);
     let mut s = 0;
     while s < loads.len() {
         let k = loads[s];
-        rows[s] = row_for(d, w, offset, k);
-        offset += dealt(d, k);
+        rows::put(row_for(d, w, offset, k), rows, s);
+        offset = ShardId(offset.0 + dealt(d, k));
         s += 1;
     }
 }
 
-// The row of a load at an offset.
-fn row_for(d: usize, w: usize, offset: usize, k: usize) -> u64
+// The row of a load at an offset. Of a width of at most 64 it is one word.
+fn row_for(d: usize, w: usize, offset: ShardId, k: usize) -> Row
     requires { ⌜ Fit d w ⌝ }
-    ensures { λ r. ⌜ r ≡ rowFor d w offset k ⌝ }
+    ensures { λ r. ⌜ rowOf r ≡ rowFor d w (offset .0) k ⌝ }
+{
+    if w <= 64 {
+        return rows::low(word_for(d, w, offset, k));
+    }
+    if k < d {
+        return rows::run_modulo(offset, k, w);
+    }
+    rows::run(ShardId(0), d)
+}
+
+fn word_for(d: usize, w: usize, offset: ShardId, k: usize) -> u64
+    requires { ⌜ Fit d w × (w ≤ 64) ⌝ }
+    ensures { λ r. ⌜ r ≡ rowFor d w (offset .0) k ⌝ }
 {
     if k < d {
-        return bitmap::run_modulo(offset, k, w);
+        return bitmap::run_modulo(offset.0, k, w);
     }
     bitmap::run(0, d)
 }

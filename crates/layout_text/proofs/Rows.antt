@@ -1,32 +1,42 @@
--- How the rows come about: runs written one after the other, and segments united with what the words hold. Assumes nothing.
-use mathlib.Core.Path.{_≡_, refl, sym, ap, _∙_}
+-- How the rows come about: runs written one after the other, and segments united with the rows that the words hold. Assumes nothing.
+use mathlib.Core.Path.{_≡_, refl, sym, ap, subst, _∙_}
 use mathlib.Core.Bool.{true, false}
-use mathlib.Core.List.{List, _∷_}
-use Prim.Native.Nat.{ℕ, zero, suc, _+_, _*_, _/_, _≤_, _<_}
-use native.Mathlib.Nat.{le-trans, le-of-eq, le-of-lt, le-of-suc-le-suc, mul-le-mul-right, mul-div-le}
+use mathlib.Core.List.{List}
+use Prim.Native.Nat.{ℕ, _+_, _*_, _/_, _^_, _≤_, _<_}
+use native.Mathlib.Nat.{le-trans, lt-of-lt-of-le, le-of-eq, le-of-lt, mul-le-mul-right, mul-div-le}
 use native.Mathlib.Omega.{arith}
 use lib.Bits.{bitOr}
-use lib.ListN.{length, take, drop, set, getD, replicate}
-use lib.Seq.{take-set-lt, getD-take}
-use borrow.Author.Tests.{lt-ltb, le-ltb}
+use lib.ListN.{length, take, drop, getD, replicate}
+use lib.Pow.{pow-mono}
+use lib.Seq.{take-length}
+use borrow.Author.Tests.{ltb-true, lt-ltb, le-ltb}
+use Rattle.lists.specs.BelowLaws.{each-below-at}
+use Rattle.lists.proofs.BelowLoops.{Filled, filled-none, filled-more, filled-done}
 use Rattle.bitmap.specs.declared.ReplicaId.{ReplicaId}
+use Rattle.bitmap.specs.WidthLaws.{run-below}
+use Rattle.rows.specs.declared.Row.{Row}
+use Rattle.rows.specs.Row.{words, rowOf, rowIn, withRow, spelled}
+use Rattle.rows.specs.WordLaws.{Words, value-lt}
+use Rattle.rows.proofs.Facts.{are-words}
+use Rattle.rows.specs.FirstRows.{firstRows, first-rows-length, first-rows-set, first-rows-none, first-rows-spell, first-rows-take}
 use Rattle.refusals.specs.Numbers.{LAYOUT}
 use Rattle.refusals.proofs.Outcomes.{is-checked}
 use Rattle.refusals.specs.Outcome.{Outcome, refused, accepted, outcome, left, andThen}
+use Rattle.refusals.specs.Limits.{mostShards}
 use Rattle.numerals.specs.Text.{isByte, cut, hasByte, before, behind, split}
 use Rattle.numerals.specs.TextLaws.{cut-le, any-cut}
 use Rattle.numerals.specs.Read.{readEach}
-use Rattle.numerals.specs.Whole.{belowOf, membersOf, whole, members}
+use Rattle.numerals.specs.Whole.{belowOf, membersOf, whole, shards}
 use Rattle.numerals.specs.declared.Whole.{Whole}
 use Rattle.numerals.specs.declared.Whole.the-variants as Wholes
-use Rattle.numerals.specs.declared.Members.{Members}
-use Rattle.numerals.specs.declared.Members.the-variants as Memberships
-use Rattle.layout_text.specs.LayoutText.{share, runsOf, lengthOf, segmentOf, segmentIn, segmentsOf, layoutOf, inputRefusal, tableRefusal, initOf, segment, answer}
+use Rattle.numerals.specs.declared.Shards.{Shards}
+use Rattle.numerals.specs.declared.Shards.the-variants as Shardings
+use Rattle.layout_text.specs.LayoutText.{share, runAt, runsOf, lengthOf, segmentOf, segmentIn, segmentsOf, layoutOf, inputRefusal, tableRefusal, initOf, inTable, initTable, segment, answer}
 use Rattle.layout_text.specs.LayoutLaws.{segment-below, tabled}
-use Rattle.layout_text.specs.declared.Segment.{Segment}
-use Rattle.layout_text.specs.declared.Segment.the-variants as Segments
 use Rattle.layout_text.specs.declared.Init.{Init}
 use Rattle.layout_text.specs.declared.Init.the-variants.{Refused, Rows}
+use Rattle.layout_text.specs.declared.Segment.{Segment}
+use Rattle.layout_text.specs.declared.Segment.the-variants as Segments
 
 -- ---- the start of a run, which must fit a word
 pub start-le : (n total r : ℕ) → r < n → r * share n total ≤ total
@@ -60,14 +70,25 @@ module _ (n total : ℕ) (s : List ℕ) {c : ℕ} (f : c ≡ cut 58 s) where
       unfolding segmentOf
       replica-refused q = rw (has, sym (e ∙ name u) ∙ ap whole q)
 
-      module _ {r : ℕ} (v : w ≡ Wholes.Value r) {t' : List ℕ} (u' : t' ≡ drop (c + 1) s) {o : Members} (e' : members o ≡ membersOf false total t') where
-        pub shards-refused : {k : ℕ} → o ≡ Memberships.Refused k → refused k ≡ segmentOf n total s
+      module _ {r : ℕ} (v : w ≡ Wholes.Value r) {t' : List ℕ} (u' : t' ≡ drop (c + 1) s) {o : Shards} (e' : shards o ≡ membersOf false total t') where
+        pub shards-refused : {k : ℕ} → o ≡ Shardings.Refused k → refused k ≡ segmentOf n total s
         unfolding segmentOf
-        shards-refused q = rw (has, sym (e ∙ name u) ∙ ap whole v, sym (e' ∙ mask u') ∙ ap members q)
+        shards-refused q = rw (has, sym (e ∙ name u) ∙ ap whole v, sym (e' ∙ mask u') ∙ ap shards q)
 
-        pub segment-read : {m : ℕ} → o ≡ Memberships.Mask m → accepted (r, m) ≡ segmentOf n total s
+        pub segment-read : {m : Row} → o ≡ Shardings.Row m → accepted (r, rowOf m) ≡ segmentOf n total s
         unfolding segmentOf
-        segment-read q = rw (has, sym (e ∙ name u) ∙ ap whole v, sym (e' ∙ mask u') ∙ ap members q)
+        segment-read q = rw (has, sym (e ∙ name u) ∙ ap whole v, sym (e' ∙ mask u') ∙ ap shards q)
+
+-- ---- two rows united: u is the row that both are united to, written in its place
+module _ (row u : Row) (a : u .w0 < 2 ^ 64) (b : u .w1 < 2 ^ 64) (c : u .w2 < 2 ^ 64) (d : u .w3 < 2 ^ 64) (table : List ℕ) (s x : ℕ) (e : x ≡ rowIn table s) (q : rowOf u ≡ bitOr x (rowOf row)) where
+  united : rowOf u ≡ bitOr (rowIn table s) (rowOf row)
+  united = q ∙ ap (λ (y : ℕ). bitOr y (rowOf row)) e
+
+  pub united-written : {new : List ℕ} → new ≡ withRow table s (rowOf u) → new ≡ withRow table s (bitOr (rowIn table s) (rowOf row))
+  united-written p = p ∙ ap (withRow table s) united
+
+  pub united-small : bitOr (rowIn table s) (rowOf row) < 2 ^ 256
+  united-small = subst (λ (m : ℕ). m < 2 ^ 256) united (value-lt (words u) (are-words u a b c d))
 
 -- ---- a segment that was read: w is what was answered of it
 module _ (n total : ℕ) (q : List ℕ) {w : Segment} (e : segment w ≡ segmentOf n total q) where
@@ -75,68 +96,117 @@ module _ (n total : ℕ) (q : List ℕ) {w : Segment} (e : segment w ≡ segment
   unfolding segmentIn
   row-refused rows t = rw (sym e ∙ ap segment t)
 
-  module _ {r : ReplicaId} {m : ℕ} (t : w ≡ Segments.Row r m) where
+  module _ {r : ReplicaId} {m : Row} (t : w ≡ Segments.Row r m) where
     pub row-below : r .0 < n
     row-below = segment-below n total q (sym e ∙ ap segment t)
 
-    pub row-united : (words : List ℕ) {u : ℕ} → u ≡ bitOr (getD words (r .0) 0) m → segmentIn n total (take n words) q ≡ accepted (take n (set words (r .0) u))
+    pub row-united : (words : List ℕ) {new : List ℕ} → n * 4 ≤ length words → bitOr (rowIn words (r .0)) (rowOf m) < 2 ^ 256 → new ≡ withRow words (r .0) (bitOr (rowIn words (r .0)) (rowOf m))
+        → segmentIn n total (firstRows n words) q ≡ accepted (firstRows n new)
     unfolding segmentIn
-    row-united words h = rw (sym e ∙ ap segment t, h, take-set-lt n words (r .0) (bitOr (getD words (r .0) 0) m) row-below, getD-take n words (r .0) 0 row-below)
+    row-united words {new} room small p =
+        let g : getD (firstRows n words) (r .0) 0 ≡ rowIn words (r .0) = each-below-at (rowIn words) n (r .0) 0 row-below in
+        rw (sym e ∙ ap segment t, g) (ap accepted (sym (ap (firstRows n) p ∙ first-rows-set n words (r .0) (bitOr (rowIn words (r .0)) (rowOf m)) room row-below small)))
+
+-- ---- runs written one after the other: the first n rows of the words are filled
+module _ (n total k : ℕ) where
+  abbrev pub Running : List ℕ → ℕ → Type 0
+  Running words r = Filled (runAt n total k) n (firstRows n words) r
+
+  pub runs-none : (words : List ℕ) → Running words 0
+  runs-none words = filled-none (runAt n total k) n (firstRows n words) (first-rows-length n words)
+
+  run-small : (r : ℕ) → 0 < total → total ≤ mostShards → runAt n total k r < 2 ^ 256
+  run-small r z l = lt-of-lt-of-le (ltb-true (runAt n total k r) (2 ^ total) (run-below total (r * share n total) k z)) (pow-mono {i = total} {j = 256} (omega arith))
+
+  pub runs-more : (words : List ℕ) (r : ℕ) {m : ℕ} {new : List ℕ} → 0 < total → total ≤ mostShards → Running words r → n * 4 ≤ length words → r < n → m ≡ runAt n total k r → new ≡ withRow words r m
+      → Running new (r + 1)
+  runs-more words r {m} z l filled room h e p =
+      let small : m < 2 ^ 256 = subst (λ (x : ℕ). x < 2 ^ 256) (sym e) (run-small r z l) in
+      subst (λ (rows : List ℕ). Filled (runAt n total k) n rows (r + 1)) (sym (ap (firstRows n) p ∙ first-rows-set n words r m room h small))
+      (filled-more (runAt n total k) n (firstRows n words) r filled m h e)
+
+  pub runs-done : (words : List ℕ) (r : ℕ) → Running words r → n ≤ r → firstRows n words ≡ runsOf n total k
+  runs-done words r filled h = filled-done (runAt n total k) n (firstRows n words) r filled h
+
+-- ---- segments, read into a table of zeros: i is what was answered of them
+module _ (n total : ℕ) (s after : List ℕ) (i : Init)
+    (h : answer i (firstRows n after) ≡ readEach (segmentIn n total) (firstRows n (replicate 64 0)) (split 47 s)) where
+  read : segmentsOf n total s ≡ answer i (firstRows n after)
+  unfolding segmentsOf
+  read = sym (h ∙ ap (λ (rows : List ℕ). readEach (segmentIn n total) rows (split 47 s)) (first-rows-none n 64))
+
+  pub segments-rows : i ≡ Rows → segmentsOf n total s ≡ accepted (firstRows n after)
+  segments-rows q = read ∙ ap (λ (x : Init). answer x (firstRows n after)) q
+
+  pub segments-refused : {k : ℕ} → i ≡ Refused k → segmentsOf n total s ≡ refused k
+  segments-refused q = read ∙ ap (λ (x : Init). answer x (firstRows n after)) q
+
+-- ---- rows that were read, `o`, for a table that held the words `old`
+module _ (n total : ℕ) (old : List ℕ) where
+  -- what is answered of them, and the words that are left
+  abbrev pub Lands : Outcome (List ℕ) → Outcome (List ℕ) → List ℕ → Type 0
+  Lands o says new = (says ≡ inTable n total (length old) o) × (new ≡ left (inTable n total (length old) o) old)
+
+  refuses : (o : Outcome (List ℕ)) {k : ℕ} → refused k ≡ inTable n total (length old) o → Lands o (refused k) old
+  refuses o e = (e, rw (← e))
+
+  pub lands-misread : (o : Outcome (List ℕ)) {k : ℕ} → o ≡ refused k → Lands o (refused k) old
+  lands-misread o q = refuses o (rw q)
+
+  module _ (o : Outcome (List ℕ)) (rows : List ℕ) (q : o ≡ accepted rows) {t : ℕ} (f : t ≡ tableRefusal n total (length old)) where
+    pub lands-untabled : (t ≡ 0 → ⊥) → Lands o (refused t) old
+    lands-untabled h =
+        refuses o (ap (λ (x : Outcome (List ℕ)). andThen x (λ ms. accepted (spelled ms))) (is-checked _ t (accepted rows) f h) ∙ sym (ap (inTable n total (length old)) q))
+
+    pub lands-written : {new : List ℕ} → t ≡ 0 → Words new → length new ≡ length old → firstRows n new ≡ rows → Lands o (accepted new) new
+    lands-written {new} y g m v =
+        let z : length old ≡ n * 4 = tabled n total (length old) .0 (sym f ∙ y) .1 in
+        let room : n * 4 ≤ length new = omega arith in
+        let w : new ≡ spelled rows =
+        sym (ap spelled (sym v) ∙ first-rows-spell n new g room ∙ ap (λ (k : ℕ). take k new) (sym z ∙ sym m) ∙ take-length new) in
+        let a : accepted new ≡ inTable n total (length old) o = ap accepted w ∙ sym (ap (inTable n total (length old)) q ∙ rw (sym f ∙ y)) in
+        (a, rw (← a))
+
+-- the rows of a copy of their words
+pub copied-rows : (n total len : ℕ) {t : ℕ} → t ≡ tableRefusal n total len → t ≡ 0 → (words new : List ℕ) → new ≡ take len words → firstRows n new ≡ firstRows n words
+copied-rows n total len f y words new h =
+    let z : len ≡ n * 4 = tabled n total len .0 (sym f ∙ y) .1 in
+    ap (firstRows n) (h ∙ ap (λ (x : ℕ). take x words) z) ∙ first-rows-take n words
 
 -- ---- a text: w is what was answered of the length of the runs
-module _ (n d total : ℕ) (s : List ℕ) {w : Whole} (e : whole w ≡ lengthOf n d total s) where
-  pub layout-runs : {k : ℕ} {rows : List ℕ} → w ≡ Wholes.Value k → rows ≡ runsOf n total k → accepted rows ≡ layoutOf n d total s
+module _ (n d total : ℕ) (s : List ℕ) {w : Whole} (l : whole w ≡ lengthOf n d total s) {k : ℕ} where
+  layout-runs : w ≡ Wholes.Value k → layoutOf n d total s ≡ accepted (runsOf n total k)
   unfolding layoutOf
-  layout-runs q h = rw (sym e ∙ ap whole q) (ap accepted h)
+  layout-runs q = rw (sym l ∙ ap whole q)
 
-  pub layout-segments : {k : ℕ} {words : List ℕ} {O : Outcome (List ℕ)}
-      → w ≡ Wholes.Refused k → words ≡ replicate n 0 → O ≡ readEach (segmentIn n total) words (split 47 s) → O ≡ layoutOf n d total s
-  unfolding layoutOf segmentsOf
-  layout-segments q z h = rw (sym e ∙ ap whole q, sym z) h
-
--- ---- words that hold no shard
-first-of : (n m : ℕ) → n ≤ m → take {A = ℕ} n (replicate m 0) ≡ replicate n 0
-first-of zero m h = refl
-first-of (suc n) zero h = absurd (omega arith)
-first-of (suc n) (suc m) h = ap (λ (l : List ℕ). 0 ∷ l) (first-of n m (le-of-suc-le-suc h))
-
-pub no-shards : (n : ℕ) → n ≤ 16 → take {A = ℕ} n (replicate 16 0) ≡ replicate n 0
-no-shards n h = first-of n 16 h
+  layout-segments : w ≡ Wholes.Refused k → layoutOf n d total s ≡ segmentsOf n total s
+  unfolding layoutOf
+  layout-segments q = rw (sym l ∙ ap whole q)
 
 -- ---- the entry, which was lent the words `old`
 module _ (n d total : ℕ) (s old : List ℕ) where
   -- what it answers, and the words that it leaves
   abbrev pub Ends : Outcome (List ℕ) → List ℕ → Type 0
-  Ends o new = (o ≡ initOf n d total s (length old)) × (new ≡ left (initOf n d total s (length old)) old)
-
-  refuses : {k : ℕ} → refused k ≡ initOf n d total s (length old) → Ends (refused k) old
-  refuses e = (e, rw (← e))
+  Ends o new = (o ≡ initTable n d total s (length old)) × (new ≡ left (initTable n d total s (length old)) old)
 
   module _ {no : ℕ} (e : no ≡ inputRefusal n d total s) where
     pub ends-unread : (no ≡ 0 → ⊥) → Ends (refused no) old
-    unfolding initOf
-    ends-unread h = refuses (is-checked _ no (andThen (layoutOf n d total s) (λ rows. outcome (tableRefusal n total (length old)) rows)) e h)
+    unfolding initTable initOf
+    ends-unread h =
+        let q : refused no ≡ initTable n d total s (length old) =
+        ap (λ (o : Outcome (List ℕ)). andThen o (λ rows. accepted (spelled rows))) (is-checked _ no (andThen (layoutOf n d total s) (λ rows. outcome (tableRefusal n total (length old)) rows)) e h) in
+        (q, rw (← q))
 
+    -- the text is read: o is what it is read to
     module _ (z : no ≡ 0) where
-      unrefused : initOf n d total s (length old) ≡ andThen (layoutOf n d total s) (λ rows. outcome (tableRefusal n total (length old)) rows)
-      unfolding initOf
-      unrefused = rw (sym e ∙ z)
+      ends-read : {o says : Outcome (List ℕ)} {new : List ℕ} → layoutOf n d total s ≡ o → Lands n total old o says new → Ends says new
+      unfolding initTable initOf
+      ends-read q h = rw (sym e ∙ z, q) h
 
-      -- i is what was answered of the text, with the rows in the first n of the words
-      module _ (words : List ℕ) {i : Init} (l : answer i (take n words) ≡ layoutOf n d total s) where
-        pub ends-misread : {k : ℕ} → i ≡ Refused k → Ends (refused k) old
-        ends-misread q = refuses (sym (unrefused ∙ rw (sym l ∙ ap (λ (x : Init). answer x (take n words)) q)))
+      -- w is what was answered of the length of the runs
+      module _ {w : Whole} (l : whole w ≡ lengthOf n d total s) {k : ℕ} {says : Outcome (List ℕ)} {new : List ℕ} where
+        pub ends-runs : w ≡ Wholes.Value k → Lands n total old (accepted (runsOf n total k)) says new → Ends says new
+        ends-runs q h = ends-read (layout-runs n d total s l q) h
 
-        module _ (q : i ≡ Rows) where
-          read : initOf n d total s (length old) ≡ outcome (tableRefusal n total (length old)) (take n words)
-          read = unrefused ∙ rw (sym l ∙ ap (λ (x : Init). answer x (take n words)) q)
-
-          module _ {t : ℕ} (f : t ≡ tableRefusal n total (length old)) where
-            pub ends-untabled : (t ≡ 0 → ⊥) → Ends (refused t) old
-            ends-untabled h = refuses (is-checked _ t (accepted (take n words)) f h ∙ sym read)
-
-            pub ends-written : {new : List ℕ} → t ≡ 0 → new ≡ take (length old) words → Ends (accepted new) new
-            ends-written {new} y h =
-                let w : new ≡ take n words = h ∙ ap (λ (x : ℕ). take x words) (tabled n total (length old) .0 (sym f ∙ y) .1) in
-                let o : accepted new ≡ initOf n d total s (length old) = ap accepted w ∙ sym (read ∙ rw (sym f ∙ y)) in
-                (o, rw (← o))
+        pub ends-segments : w ≡ Wholes.Refused k → Lands n total old (segmentsOf n total s) says new → Ends says new
+        ends-segments q h = ends-read (layout-segments n d total s l q) h

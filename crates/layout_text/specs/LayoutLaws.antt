@@ -4,30 +4,35 @@ use mathlib.Core.Path.{_≡_, refl, sym, ap, subst, _∙_}
 use mathlib.Core.Logic.{_↔_, _⊎_, inl, inr, ⊎-elim}
 use mathlib.Core.Bool.{Bool, true, false, cond, _&&_, _||_, and-eq-true-iff}
 use mathlib.Core.List.{List, [], _∷_}
-use Prim.Native.Nat.{ℕ, zero, suc, _*_, _%_, _≤_, _<_}
-use native.Mathlib.Nat.{div-le-self}
+use Prim.Native.Nat.{ℕ, zero, suc, _*_, _%_, _^_, _≤_, _<_}
+use native.Mathlib.Nat.{div-le-self, lt-of-lt-of-le}
 use native.Mathlib.Decide.{ℕ-discrete, decLt}
 use native.Mathlib.Omega.{arith}
 use lib.Bits.{bitOr}
 use lib.Dec.{leb, eqb}
 use lib.ListN.{length, take, set, getD, replicate, length-set, length-replicate, getD-replicate, List·getD-eq-default}
+use lib.Pow.{pow-mono}
 use lib.Seq.{length-take-le, getD-set-same, getD-set-other}
-use borrow.Author.Tests.{leb-true, le-leb, eqb-true, eq-eqb, ne-eqb, not-false}
+use borrow.Author.Tests.{ltb-true, leb-true, le-leb, eqb-true, eq-eqb, ne-eqb, not-false}
+use Rattle.lists.specs.All.{all}
 use Rattle.lists.specs.AllLaws.{all-means}
 use Rattle.lists.specs.BelowLaws.{each-below-length, each-below-all}
+use Rattle.rows.specs.Row.{rowsIn, spelled}
+use Rattle.rows.specs.LowLaws.{spaced, spelled-low}
+use Rattle.rows.specs.TableLaws.{Rows, spelled-length, spelled-rows}
 use Rattle.bitmap.specs.WidthLaws.{none-below, or-below, run-below}
 use Rattle.refusals.specs.Numbers.{POPULATION, SHARDS, TEXT, LAYOUT, MULTIPLE, TABLE}
 use Rattle.refusals.specs.First.{unless}
 use Rattle.refusals.specs.FirstLaws.{none-holds}
 use Rattle.refusals.specs.Outcome.{Outcome, refused, accepted, checked, outcome, andThen}
-use Rattle.refusals.specs.Limits.{isPopulation, isShards, isRow}
-use Rattle.refusals.specs.LimitLaws.{AreRows, population-means, shards-means}
+use Rattle.refusals.specs.Limits.{mostShards, isPopulation, isShards, isRow, areRows, isTable}
+use Rattle.refusals.specs.LimitLaws.{AreRows, rows-small, population-means, shards-means}
 use Rattle.numerals.specs.Text.{without, isText, isEmpty, isByte, cut, hasByte, before, behind, split}
 use Rattle.numerals.specs.TextLaws.{PartOf, Ascii, text-means, cut-le}
 use Rattle.numerals.specs.ReadLaws.{read-keeps, read-refused}
 use Rattle.numerals.specs.Whole.{isDigits, wholeOf, belowOf, membersOf}
 use Rattle.numerals.specs.WholeLaws.{below-limit, members-below}
-use Rattle.layout_text.specs.LayoutText.{share, runAt, runsOf, lengthOf, segmentOf, segmentIn, segmentsOf, orSegments, layoutOf, mostBytes, inputRefusal, tableRefusal, initOf}
+use Rattle.layout_text.specs.LayoutText.{share, runAt, runsOf, lengthOf, segmentOf, segmentIn, segmentsOf, orSegments, layoutOf, mostBytes, inputRefusal, tableRefusal, initOf, initTable}
 
 -- ---- runs
 
@@ -217,8 +222,8 @@ module _ (n total : ℕ) where
 module _ (n d total : ℕ) (s : List ℕ) where
   pub record Readable : Type 0 where
     pub population : (1 ≤ n) × (n ≤ 16)
-    pub shards : (1 ≤ d) × (d ≤ total) × (total ≤ 64)
-    pub text : Ascii mostBytes s
+    pub shards : (1 ≤ d) × (d ≤ total) × (total ≤ mostShards)
+    pub text : Ascii 16384 s
 
   pub readable : (inputRefusal n d total s ≡ 0) ↔ Readable
   unfolding inputRefusal
@@ -228,19 +233,19 @@ module _ (n d total : ℕ) (s : List ℕ) where
         record {
           population = population-means n .0 (not-false _ (h .0));
           shards = shards-means d total .0 (not-false _ (h .1 .0));
-          text = text-means mostBytes s .0 (not-false _ (h .1 .1 .0));
+          text = text-means 16384 s .0 (not-false _ (h .1 .1 .0));
         },
-    λ r. simp (population-means n .1 (r .population), shards-means d total .1 (r .shards), text-means mostBytes s .1 (r .text)),
+    λ r. simp (population-means n .1 (r .population), shards-means d total .1 (r .shards), text-means 16384 s .1 (r .text)),
   )
 
--- a total of as many shards for each, and a table of n words
-pub tabled : (n total len : ℕ) → (tableRefusal n total len ≡ 0) ↔ ((total % n ≡ 0) × (len ≡ n))
+-- a total of as many shards for each, and a table of n rows
+pub tabled : (n total len : ℕ) → (tableRefusal n total len ≡ 0) ↔ ((total % n ≡ 0) × (len ≡ n * 4))
 unfolding tableRefusal
 tabled n total len = (
   λ e.
-      let h = none-holds (unless (eqb (total % n) 0) MULTIPLE ∷ unless (eqb len n) TABLE ∷ []) refl .0 e in
-      (eqb-true (total % n) 0 (not-false _ (h .0)), eqb-true len n (not-false _ (h .1 .0))),
-  λ h. simp (eq-eqb (total % n) 0 (h .0), eq-eqb len n (h .1)),
+      let h = none-holds (unless (eqb (total % n) 0) MULTIPLE ∷ unless (isTable n len) TABLE ∷ []) refl .0 e in
+      (eqb-true (total % n) 0 (not-false _ (h .0)), eqb-true len (n * 4) (not-false _ (h .1 .0))),
+  λ h. simp (eq-eqb (total % n) 0 (h .0), eq-eqb len (n * 4) (h .1)),
 )
 
 -- ---- the entry
@@ -257,9 +262,44 @@ init-accepted n d total s len {rows} e = go (inputRefusal n d total s) (layoutOf
     go zero (refused x) j e = let z : _≡_ {A = ℕ} 0 1 = cc in absurd (omega arith)
     go (suc k) o j e = let z : _≡_ {A = ℕ} 0 1 = cc in absurd (omega arith)
 
--- so the words that it leaves are the rows of n replicas
-pub init-are-rows : (n d total : ℕ) (s : List ℕ) (len : ℕ) {rows : List ℕ} → initOf n d total s len ≡ accepted rows → AreRows n total rows × (len ≡ n)
+-- so what it is read to are the rows of n replicas, and there is a table for them
+pub init-are-rows : (n d total : ℕ) (s : List ℕ) (len : ℕ) {rows : List ℕ} → initOf n d total s len ≡ accepted rows → AreRows n total rows × (len ≡ n * 4)
 init-are-rows n d total s len e =
     let a = init-accepted n d total s len e in
     let r = readable n d total s .0 (a .0) in
     (layout-are-rows n total d s (omega (arith, r .shards)) (a .1), tabled n total len .0 (a .2) .1)
+
+-- and each has room in four words
+init-rows-small : (n d total : ℕ) (s : List ℕ) (len : ℕ) {rows : List ℕ} → initOf n d total s len ≡ accepted rows → Rows rows
+init-rows-small n d total s len {rows} e =
+    rows-small n total rows (init-are-rows n d total s len e .0) (readable n d total s .0 (init-accepted n d total s len e .0) .shards .2)
+
+-- so the table that it leaves holds these rows, and passes as a table of n rows of shards below the total
+pub record Tabled (n d total : ℕ) (s : List ℕ) (len : ℕ) (words : List ℕ) : Type 0 where
+  pub read : initOf n d total s len ≡ accepted (rowsIn words)
+  pub below : areRows total words ≡ true
+  pub table : isTable n (length words) ≡ true
+  pub filled : length words ≡ len
+
+pub table-holds : (n d total : ℕ) (s : List ℕ) (len : ℕ) {words : List ℕ} → initTable n d total s len ≡ accepted words → Tabled n d total s len words
+unfolding initTable
+table-holds n d total s len {words} e = go (initOf n d total s len) refl e
+  where
+    go : (o : Outcome (List ℕ)) → initOf n d total s len ≡ o → andThen o (λ rows. accepted (spelled rows)) ≡ accepted words → Tabled n d total s len words
+    go (refused k) t e = let z : _≡_ {A = ℕ} 0 1 = cc in absurd (omega arith)
+    go (accepted rows) t e =
+        let z : spelled rows ≡ words = cc in
+        let r = init-are-rows n d total s len t in
+        let q : rowsIn words ≡ rows = ap rowsIn (sym z) ∙ spelled-rows rows (init-rows-small n d total s len t) in
+        let l : length words ≡ n * 4 = ap length (sym z) ∙ spelled-length rows ∙ ap (λ (k : ℕ). k * 4) (r .0 .0) in
+        record {
+          read = t ∙ ap accepted (sym q);
+          below = ap (all (isRow total)) q ∙ r .0 .1;
+          table = eq-eqb (length words) (n * 4) l;
+          filled = l ∙ sym (r .1);
+        }
+
+-- where the total is at most 64 each row is its first word, as in a table of one word a row
+pub table-narrow : (n d total : ℕ) (s : List ℕ) (len : ℕ) {rows : List ℕ} → total ≤ 64 → initOf n d total s len ≡ accepted rows → initTable n d total s len ≡ accepted (spaced rows)
+unfolding initTable
+table-narrow n d total s len {rows} l e = rw e (ap accepted (spelled-low total rows l (init-are-rows n d total s len e .0 .1)))

@@ -7,10 +7,11 @@ use lib.Dec.{leb, eqb}
 use lib.ListN.{set, getD, replicate}
 use Rattle.lists.specs.Below.{eachBelow}
 use Rattle.bitmap.specs.Mask.{runModulo}
+use Rattle.rows.specs.Row.{rowOf, spelled}
 use Rattle.refusals.specs.Numbers.{POPULATION, SHARDS, TEXT, LAYOUT, MULTIPLE, TABLE}
 use Rattle.refusals.specs.First.{unless, firstOf}
 use Rattle.refusals.specs.Outcome.{Outcome, refused, accepted, checked, outcome, andThen}
-use Rattle.refusals.specs.Limits.{isPopulation, isShards}
+use Rattle.refusals.specs.Limits.{isPopulation, isShards, isTable}
 use Rattle.numerals.specs.Text.{isText, isEmpty, hasByte, before, behind, split}
 use Rattle.numerals.specs.Read.{readEach}
 use Rattle.numerals.specs.Whole.{wholeOf, belowOf, membersOf}
@@ -66,9 +67,9 @@ layoutOf n d total s = orSegments n total s (lengthOf n d total s)
 
 -- ---- what refuses
 
--- a layout text has at most 4,096 bytes
+-- a layout text has at most 16,384 bytes
 abbrev pub mostBytes : ℕ
-mostBytes = 4096
+mostBytes = 16384
 
 -- before the text is read
 unfoldable pub inputRefusal : ℕ → ℕ → ℕ → List ℕ → ℕ
@@ -77,17 +78,25 @@ inputRefusal n d total s =
 
 -- and after it
 unfoldable pub tableRefusal : ℕ → ℕ → ℕ → ℕ
-tableRefusal n total len = firstOf (unless (eqb (total % n) 0) MULTIPLE ∷ unless (eqb len n) TABLE ∷ [])
+tableRefusal n total len = firstOf (unless (eqb (total % n) 0) MULTIPLE ∷ unless (isTable n len) TABLE ∷ [])
 
 unfoldable pub initOf : ℕ → ℕ → ℕ → List ℕ → ℕ → Outcome (List ℕ)
 initOf n d total s len = checked (inputRefusal n d total s) (andThen (layoutOf n d total s) (λ rows. outcome (tableRefusal n total len) rows))
+
+-- rows that were read, as a table of four words a row: the number of the fault, or of the table, or the words
+abbrev pub inTable : ℕ → ℕ → ℕ → Outcome (List ℕ) → Outcome (List ℕ)
+inTable n total len o = andThen (andThen o (λ rows. outcome (tableRefusal n total len) rows)) (λ rows. accepted (spelled rows))
+
+-- the table that has the rows of a text, four words a row
+unfoldable pub initTable : ℕ → ℕ → ℕ → List ℕ → ℕ → Outcome (List ℕ)
+initTable n d total s len = andThen (initOf n d total s len) (λ rows. accepted (spelled rows))
 
 -- ---- what the answers are
 
 -- of a segment: the replica's number and its shards
 abbrev pub segment : Segment → Outcome (ℕ × ℕ)
 segment (Segments.Refused k) = refused k
-segment (Segments.Row r m) = accepted (r .0, m)
+segment (Segments.Row r m) = accepted (r .0, rowOf m)
 
 -- of the text, with the words that the table holds at exit
 abbrev pub answer : Init → List ℕ → Outcome (List ℕ)

@@ -1,19 +1,26 @@
 // The layout text of the initial assignment (parse_init_assignment): runs of shards, or segments that name each replica's shards.
 ghost use mathlib.Core.Path.{_≡_};
 ghost use mathlib.Core.Bool.{false};
-ghost use Prim.Native.Nat.{_<_, _≤_};
-ghost use lib.ListN.{length, take, replicate};
-ghost use Rattle.refusals.specs.Outcome.{left};
+ghost use Prim.Native.Nat.{_+_, _*_, _^_, _<_, _≤_};
+ghost use lib.Bits.{bitOr};
+ghost use lib.ListN.{length};
+ghost use Rattle.bitmap.specs.Mask.{runModulo};
+ghost use Rattle.rows.specs.Row.{rowOf, rowIn, withRow};
+ghost use Rattle.rows.specs.FirstRows.{firstRows};
+ghost use Rattle.refusals.specs.Outcome.{accepted, left};
+ghost use Rattle.refusals.specs.Limits.{mostShards};
 ghost use Rattle.numerals.specs.Text.{split};
 ghost use Rattle.numerals.specs.Read.{readEach};
 ghost use Rattle.numerals.specs.Whole.{whole};
-ghost use Rattle.layout_text.specs.LayoutText.{runsOf, lengthOf, segmentOf, segmentIn, layoutOf, inputRefusal, tableRefusal, initOf, segment, answer};
+ghost use Rattle.layout_text.specs.LayoutText.{runsOf, lengthOf, segmentOf, segmentIn, segmentsOf, inputRefusal, tableRefusal, inTable, initTable, segment, answer};
 use bitmap::ReplicaId;
-use numerals::Members;
+use numerals::Shards;
 use numerals::Whole;
+use rows::Row;
+use rows::ShardId;
 
 // The most bytes that a layout text has.
-const MOST_BYTES: usize = 4096;
+const MOST_BYTES: usize = 16384;
 
 // The number that refuses, or the rows, which are in the lent table.
 pub enum Init {
@@ -24,25 +31,51 @@ pub enum Init {
 // A segment: a replica and its shards, or the number of the first fault.
 enum Segment {
     Refused(u8),
-    Row(ReplicaId, u64),
+    Row(ReplicaId, Row),
 }
 
-// The rows of n replicas that a layout text says, written to the lent table.
+// The rows of n replicas that a layout text says, written to the lent table, four words a row.
 pub fn parse_init_assignment(n: usize, d: usize, total: usize, s: &[u8], rows: &mut [u64]) -> Init
-    ensures { λ r. ⌜ (answer r (now (rows .exit)) ≡ initOf n d total (now (s .entry)) (length (now (rows .entry))))
-        × (now (rows .exit) ≡ left (initOf n d total (now (s .entry)) (length (now (rows .entry)))) (now (rows .entry))) ⌝ }
+    ensures { λ r. ⌜ (answer r (now (rows .exit)) ≡ initTable n d total (now (s .entry)) (length (now (rows .entry))))
+        × (now (rows .exit) ≡ left (initTable n d total (now (s .entry)) (length (now (rows .entry)))) (now (rows .entry))) ⌝ }
 {
     let no = input_refusal(n, d, total, s);
     if no != 0 {
         return Init::Refused(no);
     }
-    let mut words = [0u64; 16];
-    match read_layout(n, d, total, s, &mut words) {
+    match run_length(n, d, total, s) {
+        Whole::Value(k) => write_runs(n, total, k, rows),
+        Whole::Refused(_) => write_segments(n, total, s, rows),
+    }
+}
+
+// Runs of k shards, straight into the lent table: nothing but the table can refuse them. A part: the numbers have been tested.
+fn write_runs(n: usize, total: usize, k: usize, rows: &mut [u64]) -> Init
+    requires { ⌜ (0 < n) × (0 < total) × (total ≤ mostShards) × (k ≤ total) ⌝ }
+    ensures { λ r. ⌜ (answer r (now (rows .exit)) ≡ inTable n total (length (now (rows .entry))) (accepted (runsOf n total k)))
+        × (now (rows .exit) ≡ left (inTable n total (length (now (rows .entry))) (accepted (runsOf n total k))) (now (rows .entry))) ⌝ }
+{
+    let no = table_refusal(n, total, rows.len());
+    if no != 0 {
+        return Init::Refused(no);
+    }
+    runs(n, total, k, rows);
+    Init::Rows
+}
+
+// Segments, by way of a table of their own: the last of them may be at fault. A part: the numbers have been tested.
+fn write_segments(n: usize, total: usize, s: &[u8], rows: &mut [u64]) -> Init
+    requires { ⌜ (0 < n) × (n ≤ 16) × (total ≤ mostShards) ⌝ }
+    ensures { λ r. ⌜ (answer r (now (rows .exit)) ≡ inTable n total (length (now (rows .entry))) (segmentsOf n total (now (s .entry))))
+        × (now (rows .exit) ≡ left (inTable n total (length (now (rows .entry))) (segmentsOf n total (now (s .entry)))) (now (rows .entry))) ⌝ }
+{
+    let mut words = [0u64; 64];
+    match read_segments(n, total, s, &mut words) {
         Init::Refused(fault) => Init::Refused(fault),
         Init::Rows => {
-            let table = table_refusal(n, total, rows.len());
-            if table != 0 {
-                return Init::Refused(table);
+            let no = table_refusal(n, total, rows.len());
+            if no != 0 {
+                return Init::Refused(no);
             }
             bitmap::copy(&words, rows);
             Init::Rows
@@ -74,24 +107,10 @@ fn table_refusal(n: usize, total: usize, len: usize) -> u8
     if total % n != 0 {
         return refusals::MULTIPLE;
     }
-    if len != n {
+    if !refusals::is_table(n, len) {
         return refusals::TABLE;
     }
     0
-}
-
-// The first n of the words, which held no shard. A part: the numbers have been tested.
-fn read_layout(n: usize, d: usize, total: usize, s: &[u8], words: &mut [u64]) -> Init
-    requires { ⌜ (0 < n) × (0 < total) × (total ≤ 64) × (d ≤ total) × (n ≤ length (now words)) × (take n (now words) ≡ replicate n 0) ⌝ }
-    ensures { λ r. ⌜ answer r (take n (now (words .exit))) ≡ layoutOf n d total (now (s .entry)) ⌝ }
-{
-    match run_length(n, d, total, s) {
-        Whole::Value(k) => {
-            runs(n, total, k, words);
-            Init::Rows
-        }
-        Whole::Refused(_) => read_segments(n, total, s, words),
-    }
 }
 
 // The length of the runs, where the text gives one.
@@ -119,21 +138,32 @@ fn run_length(n: usize, d: usize, total: usize, s: &[u8]) -> Whole
 
 // Runs of k shards, one a row.
 fn runs(n: usize, total: usize, k: usize, words: &mut [u64])
-    requires { ⌜ (0 < n) × (0 < total) × (total ≤ 64) × (k ≤ total) × (n ≤ length (now words)) ⌝ }
-    ensures { λ _. ⌜ take n (now (words .exit)) ≡ runsOf n total k ⌝ }
+    requires { ⌜ (0 < n) × (0 < total) × (total ≤ mostShards) × (k ≤ total) × (n * 4 ≤ length (now words)) ⌝ }
+    ensures { λ _. ⌜ firstRows n (now (words .exit)) ≡ runsOf n total k ⌝ }
 {
     let share = total / n;
     let mut r = 0;
     while r < n {
-        words[r] = bitmap::run_modulo(r * share, k, total);
+        rows::put(run_from(ShardId(r * share), k, total), words, r);
         r += 1;
     }
 }
 
-// The segments joined by `/`, each united with what the words hold.
+// A run modulo the total. Of a total of at most 64 it is one word.
+fn run_from(from: ShardId, k: usize, total: usize) -> Row
+    requires { ⌜ (0 < total) × (total ≤ mostShards) × (k ≤ total) ⌝ }
+    ensures { λ r. ⌜ rowOf r ≡ runModulo total (from .0) k ⌝ }
+{
+    if total <= 64 {
+        return rows::low(bitmap::run_modulo(from.0, k, total));
+    }
+    rows::run_modulo(from, k, total)
+}
+
+// The segments joined by `/`, each united with the row that the words hold.
 fn read_segments(n: usize, total: usize, s: &[u8], words: &mut [u64]) -> Init
-    requires { ⌜ (total ≤ 64) × (n ≤ length (now words)) ⌝ }
-    ensures { λ r. ⌜ answer r (take n (now (words .exit))) ≡ readEach (segmentIn n total) (take n (now (words .entry))) (split 47 (now (s .entry))) ⌝ }
+    requires { ⌜ (total ≤ mostShards) × (n * 4 ≤ length (now words)) ⌝ }
+    ensures { λ r. ⌜ answer r (firstRows n (now (words .exit))) ≡ readEach (segmentIn n total) (firstRows n (now (words .entry))) (split 47 (now (s .entry))) ⌝ }
 {
     let mut p: usize = 0;
     loop {
@@ -143,8 +173,7 @@ fn read_segments(n: usize, total: usize, s: &[u8], words: &mut [u64]) -> Init
                 return Init::Refused(no);
             }
             Segment::Row(r, m) => {
-                let k = r.0;
-                words[k] = bitmap::union(words[k], m);
+                unite(m, words, r);
             }
         }
         p = p + q.len();
@@ -155,9 +184,19 @@ fn read_segments(n: usize, total: usize, s: &[u8], words: &mut [u64]) -> Init
     }
 }
 
+// Adds the shards of a row to those that the words hold for the replica r. A part: the words have its row.
+fn unite(row: Row, words: &mut [u64], r: ReplicaId)
+    requires { ⌜ r .0 * 4 + 4 ≤ length (now words) ⌝ }
+    ensures words { λ _. ⌜ now (words .exit) ≡ withRow (now (words .entry)) (r .0) (bitOr (rowIn (now (words .entry)) (r .0)) (rowOf row)) ⌝ }
+    ensures room { λ _. ⌜ bitOr (rowIn (now (words .entry)) (r .0)) (rowOf row) < 2 ^ 256 ⌝ }
+{
+    let k = r.0;
+    rows::put(rows::union(rows::row_in(words, k), row), words, k);
+}
+
 // `replica:shard,shard`.
 fn read_segment(n: usize, total: usize, s: &[u8]) -> Segment
-    requires { ⌜ total ≤ 64 ⌝ }
+    requires { ⌜ total ≤ mostShards ⌝ }
     ensures { λ r. ⌜ segment r ≡ segmentOf n total (now (s .entry)) ⌝ }
 {
     let c = numerals::find(s, b':');
@@ -166,9 +205,9 @@ fn read_segment(n: usize, total: usize, s: &[u8]) -> Segment
     }
     match numerals::read_below(numerals::upto(s, c), n) {
         Whole::Refused(no) => Segment::Refused(no),
-        Whole::Value(r) => match numerals::read_members(numerals::after(s, c + 1), false, total) {
-            Members::Refused(no) => Segment::Refused(no),
-            Members::Mask(m) => Segment::Row(ReplicaId(r), m),
+        Whole::Value(r) => match numerals::read_shards(numerals::after(s, c + 1), false, total) {
+            Shards::Refused(no) => Segment::Refused(no),
+            Shards::Row(m) => Segment::Row(ReplicaId(r), m),
         },
     }
 }

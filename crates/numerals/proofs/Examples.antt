@@ -2,7 +2,7 @@
 use mathlib.Core.Path.{_≡_, refl}
 use mathlib.Core.Bool.{true, false}
 use mathlib.Core.List.{List, [], _∷_, map}
-use Prim.Native.Nat.{ℕ}
+use Prim.Native.Nat.{ℕ, _+_, _^_}
 use Prim.Native.String.{String}
 use lib.ListN.{replicate}
 use Rattle.refusals.specs.Outcome.{Outcome, refused, accepted}
@@ -62,6 +62,21 @@ members-bare : Agrees (membersOf false 3) ((" 0", refused 7) ∷ ("0 ,2", refuse
 unfolding isDigits spelt without wholeOf belowOf memberOf memberIn membersOf readEach split
 members-bare = refl
 
+-- members below 255 and 256, as the shards of a row
+members-wide : Agrees (membersOf false 255) (
+    ("63,64", accepted (2 ^ 63 + 2 ^ 64))
+    ∷ ("254,0,254", accepted (2 ^ 254 + 1))
+    ∷ ("255", refused 9)
+    ∷ ("256", refused 7)
+    ∷ []
+    )
+unfolding isDigits spelt without wholeOf belowOf memberOf memberIn membersOf readEach split
+members-wide = refl
+
+member-widest : membersOf false 256 (bytes "255") ≡ accepted (2 ^ 255)
+unfolding isDigits spelt without wholeOf belowOf memberOf memberIn membersOf readEach split
+member-widest = refl
+
 -- ---- blanks: 9 to 13 and 32 go, 8, 14, 28 and 31 stay, and those inside
 blanks : List (List ℕ × List ℕ)
 blanks =
@@ -75,7 +90,7 @@ blanks-go : map (λ l. trim (l .0)) blanks ≡ map (λ l. l .1) blanks
 unfolding blanks trim trimStart trimEnd
 blanks-go = refl
 
--- ---- texts: 4,096 bytes of 127, one more, and a byte 128
+-- ---- texts: 4,096 bytes of 127, one more, and a byte 128; the same of 16,384
 text-longest : isText 4096 (replicate 4096 127) ≡ true
 unfolding isText
 text-longest = refl
@@ -87,3 +102,11 @@ text-longer = refl
 text-byte : isText 4096 (65 ∷ 128 ∷ []) ≡ false
 unfolding isText
 text-byte = refl
+
+text-longest-layout : isText 16384 (replicate 16384 127) ≡ true
+unfolding isText
+text-longest-layout = refl
+
+text-longer-layout : isText 16384 (replicate 16385 65) ≡ false
+unfolding isText
+text-longer-layout = refl

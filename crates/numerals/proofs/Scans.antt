@@ -2,23 +2,29 @@
 use mathlib.Core.Path.{_≡_, refl, sym, ap, _∙_}
 use mathlib.Core.Bool.{Bool, true, false, cond, _&&_, _||_, and-assoc, and-true, or-assoc, or-false, true≢false}
 use mathlib.Core.List.{List, [], _∷_, _++_, reverse, reverse-append, reverse-reverse}
-use Prim.Native.Nat.{ℕ, zero, suc, _+_, _-_, _*_, _≤_, _<_}
+use Prim.Native.Nat.{ℕ, zero, suc, _+_, _-_, _*_, _^_, _≤_, _<_}
 use native.Mathlib.Omega.{arith}
 use native.Mathlib.Numerals.{add-one}
-use native.Mathlib.Nat.{zero-add}
+use native.Mathlib.Nat.{zero-add, lt-of-lt-of-le}
 use lib.Dec.{leb, eqb}
 use lib.ListN.{length, getD, drop, take, length-drop, drop-of-length-le}
+use lib.Pow.{pow-mono}
 use lib.Seq.{drop-cons, drop-drop, take-suc, getD-drop}
-use borrow.Author.Tests.{lt-leb, le-leb, eq-eqb, ne-eqb}
+use borrow.Author.Tests.{ltb-true, lt-leb, le-leb, eq-eqb, ne-eqb}
 use Rattle.lists.specs.All.{all, any}
 use Rattle.bitmap.specs.Mask.{withBit}
+use Rattle.rows.specs.declared.Row.{Row}
+use Rattle.rows.specs.Row.{rowOf}
+use Rattle.rows.specs.LowLaws.{value-low}
 use Rattle.refusals.specs.Numbers.{NUMERAL}
 use Rattle.refusals.specs.Outcome.{Outcome, refused, accepted}
 use Rattle.numerals.specs.Text.{without, isBlank, trimStart, trimEnd, trim, cutBy, isSame}
-use Rattle.numerals.specs.Whole.{isDigit, isDigits, spelt, unplussed, wholeOf, memberOf, memberIn, whole}
-use Rattle.numerals.specs.WholeLaws.{below-limit}
+use Rattle.numerals.specs.Whole.{isDigit, isDigits, spelt, unplussed, wholeOf, memberOf, memberIn, membersOf, whole, shards}
+use Rattle.numerals.specs.WholeLaws.{below-limit, members-below}
 use Rattle.numerals.specs.declared.Whole.{Whole}
 use Rattle.numerals.specs.declared.Whole.the-variants.{Refused, Value}
+use Rattle.numerals.specs.declared.Shards.{Shards}
+use Rattle.numerals.specs.declared.Shards.the-variants as Shardings
 
 -- ---- the first byte that passes a test: n is i and what is left
 module _ (p : ℕ → Bool) (i n : ℕ) (s : List ℕ) (e : n ≡ i + cutBy p (drop i s)) where
@@ -236,3 +242,14 @@ module _ (trims : Bool) (limit : ℕ) (q : List ℕ) {w : Whole} (e : whole w �
     pub member-below : v < limit
     unfolding memberOf
     member-below = below-limit limit (cond trims (trim q) q) (sym e ∙ ap whole t)
+
+-- ---- a list of members as a row, and as a mask where they all have room in its first word: w is what was answered as a row
+module _ (trims : Bool) (limit : ℕ) (s : List ℕ) {w : Shards} (e : shards w ≡ membersOf trims limit s) where
+  pub mask-refused : {k : ℕ} → w ≡ Shardings.Refused k → refused k ≡ membersOf trims limit s
+  mask-refused t = sym (ap shards t) ∙ e
+
+  pub mask-read : {row : Row} → limit ≤ 64 → w ≡ Shardings.Row row → accepted (row .w0) ≡ membersOf trims limit s
+  mask-read {row} h t =
+      let r : accepted (rowOf row) ≡ membersOf trims limit s = sym (ap shards t) ∙ e in
+      let b = ltb-true (rowOf row) (2 ^ limit) (members-below trims limit s (sym r)) in
+      ap accepted (value-low (row .w0) (row .w1 ∷ row .w2 ∷ row .w3 ∷ []) (lt-of-lt-of-le b (pow-mono {i = limit} {j = 64} h))) ∙ r

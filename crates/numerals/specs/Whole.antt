@@ -5,6 +5,7 @@ use Prim.Native.Nat.{ℕ, _+_, _-_, _*_}
 use lib.Dec.{leb, ltb}
 use Rattle.lists.specs.All.{all}
 use Rattle.bitmap.specs.Mask.{withBit}
+use Rattle.rows.specs.Row.{rowOf}
 use Rattle.refusals.specs.Numbers.{NUMERAL, MEMBER}
 use Rattle.refusals.specs.Outcome.{Outcome, refused, accepted, andThen}
 use Rattle.numerals.specs.Text.{isEmpty, trim, without, isByte, split}
@@ -13,6 +14,8 @@ use Rattle.numerals.specs.declared.Whole.{Whole}
 use Rattle.numerals.specs.declared.Whole.the-variants as Wholes
 use Rattle.numerals.specs.declared.Members.{Members}
 use Rattle.numerals.specs.declared.Members.the-variants as Memberships
+use Rattle.numerals.specs.declared.Shards.{Shards}
+use Rattle.numerals.specs.declared.Shards.the-variants as Shardings
 
 -- ---- digits
 
@@ -52,7 +55,7 @@ memberOf trims limit p = belowOf limit (cond trims (trim p) p)
 unfoldable pub memberIn : Bool → ℕ → ℕ → List ℕ → Outcome ℕ
 memberIn trims limit m p = andThen (memberOf trims limit p) (λ v. accepted (withBit m v))
 
--- their mask
+-- all of them, as a mask of replicas or a row of shards: a number of any width
 unfoldable pub membersOf : Bool → ℕ → List ℕ → Outcome ℕ
 membersOf trims limit s = readEach (memberIn trims limit) 0 (split 44 s)
 
@@ -65,3 +68,7 @@ whole (Wholes.Value v) = accepted v
 abbrev pub members : Members → Outcome ℕ
 members (Memberships.Refused k) = refused k
 members (Memberships.Mask m) = accepted m
+
+abbrev pub shards : Shards → Outcome ℕ
+shards (Shardings.Refused k) = refused k
+shards (Shardings.Row row) = accepted (rowOf row)

@@ -5,7 +5,9 @@ ghost use lib.ListN.{length, take, drop};
 ghost use Rattle.lists.specs.All.{all};
 ghost use Rattle.numerals.specs.Text.{isText, isAscii, isSame, isBlank, trimStart, trimEnd, trim, cut, hasByte};
 ghost use Rattle.numerals.specs.TextLaws.{PartOf};
-ghost use Rattle.numerals.specs.Whole.{isDigit, isDigits, unplussed, wholeOf, belowOf, memberOf, membersOf, whole, members};
+ghost use Rattle.numerals.specs.Whole.{isDigit, isDigits, unplussed, wholeOf, belowOf, memberOf, membersOf, whole, members, shards};
+use rows::Row;
+use rows::ShardId;
 
 // A whole number, or the number of its fault.
 pub enum Whole {
@@ -13,10 +15,16 @@ pub enum Whole {
     Value(usize),
 }
 
-// The mask of a list of numbers, or the number of its first fault.
+// The mask of a list of replicas, or the number of its first fault.
 pub enum Members {
     Refused(u8),
     Mask(u64),
+}
+
+// The row of a list of shards, or the number of its first fault.
+pub enum Shards {
+    Refused(u8),
+    Row(Row),
 }
 
 // Whether s has at most so many bytes, all below 128.
@@ -77,21 +85,32 @@ pub fn read_members(s: &[u8], trims: bool, limit: usize) -> Members
     requires { ⌜ limit ≤ 64 ⌝ }
     ensures { λ r. ⌜ members r ≡ membersOf trims limit (now (s .entry)) ⌝ }
 {
-    let mut m: u64 = 0;
+    match read_shards(s, trims, limit) {
+        Shards::Refused(no) => Members::Refused(no),
+        Shards::Row(row) => Members::Mask(row.w0),
+    }
+}
+
+// The same as a row. A part: a row has room for numbers below 256.
+pub fn read_shards(s: &[u8], trims: bool, limit: usize) -> Shards
+    requires { ⌜ limit ≤ 256 ⌝ }
+    ensures { λ r. ⌜ shards r ≡ membersOf trims limit (now (s .entry)) ⌝ }
+{
+    let mut row = rows::none();
     let mut p: usize = 0;
     loop {
         let q = part(s, p, b',');
         match read_member(q, trims, limit) {
             Whole::Refused(no) => {
-                return Members::Refused(no);
+                return Shards::Refused(no);
             }
             Whole::Value(v) => {
-                m = bitmap::with_bit(m, v);
+                row = rows::with_shard(row, ShardId(v));
             }
         }
         p = p + q.len();
         if p == s.len() {
-            return Members::Mask(m);
+            return Shards::Row(row);
         }
         p += 1;
     }

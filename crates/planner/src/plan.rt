@@ -31,7 +31,7 @@ pub fn plan(text: &[u8]) {
         Reading::Read => {
             let p = r.profile;
             let mut list = [0u64; MOST_SETS];
-            let mut rows = [0u64; 16];
+            let mut rows = [0u64; 64];
             survive(text, n, p, &mut list, &mut rows);
         }
     }
@@ -54,14 +54,15 @@ fn listed(text: &[u8], n: usize, p: Profile, k: usize, list: &[u64], rows: &mut 
     if list.len() < k {
         return;
     }
-    if rows.len() < n {
+    if rows.len() / 4 < n {
         return;
     }
+    let words = n * 4;
     print::faults(&list[..k]);
     if !site_check::are_peers(text, n) {
         return;
     }
-    pick(text, n, p, &list[..k], &mut rows[..n]);
+    pick(text, n, p, &list[..k], &mut rows[..words]);
 }
 
 fn pick(text: &[u8], n: usize, p: Profile, list: &[u64], rows: &mut [u64]) {

@@ -16,12 +16,14 @@ pub fn faults(list: &[u64]) {
 pub fn layout(own: usize, width: usize, rows: &[u64]) {
     printed::number(b"  width ", width);
     io::write_all(1, b"\n");
+    let n = rows.len() / 4;
     let mut i = 0;
-    while i < rows.len() {
+    while i < n {
+        let row = rows::row_in(rows, i);
         printed::number(b"  replica ", i);
-        printed::number(b"  load ", bitmap::count(rows[i]));
+        printed::number(b"  load ", rows::count(row));
         io::write_all(1, b"  shards ");
-        printed::members(rows[i]);
+        printed::shards(row);
         if i == own {
             io::write_all(1, b"  (own)");
         }

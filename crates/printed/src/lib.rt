@@ -1,5 +1,6 @@
 // What the programs print, on standard output, of the library's values.
-use bitmap::ShardId;
+use rows::Row;
+use rows::ShardId;
 
 // A number, after its name.
 pub fn number(name: &[u8], x: usize) {
@@ -9,10 +10,20 @@ pub fn number(name: &[u8], x: usize) {
 
 // The members of a mask, rising, or none.
 pub fn members(mask: u64) {
+    shards(Row {
+        w0: mask,
+        w1: 0,
+        w2: 0,
+        w3: 0,
+    });
+}
+
+// The shards of a row, rising, or none.
+pub fn shards(row: Row) {
     let mut named = false;
     let mut i: usize = 0;
-    while i < 64 {
-        if bitmap::has_shard(mask, ShardId(i)) {
+    while i < 256 {
+        if rows::has_shard(row, ShardId(i)) {
             member(named, i);
             named = true;
         }

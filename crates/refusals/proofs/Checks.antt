@@ -9,7 +9,7 @@ use lib.Dec.{leb, ltb, eqb}
 use lib.ListN.{length, getD, drop}
 use borrow.Author.Tests.{lt-ltb, le-ltb, le-leb, lt-leb, eq-eqb, ne-eqb, not-true, not-false}
 use Rattle.lists.specs.All.{all}
-use Rattle.refusals.specs.Limits.{isPopulation, isShards, isQuorum, isUnder}
+use Rattle.refusals.specs.Limits.{mostShards, isPopulation, isShards, isQuorum, isUnder}
 use Rattle.refusals.specs.LimitLaws.{population-means, shards-means, quorum-means}
 use Rattle.lists.proofs.Loops.{Passed, pass, fail}
 
@@ -60,7 +60,7 @@ pub at-most-64 : (n : ℕ) (r : Bool) → r ≡ isPopulation n → not r ≡ fal
 at-most-64 n r e t = omega (arith, at-most-16 n r e t)
 
 -- what data shards that passed give, and a majority
-pub small-shards : (d w : ℕ) (r : Bool) → r ≡ isShards d w → not r ≡ false → d ≤ 64
+pub small-shards : (d w : ℕ) (r : Bool) → r ≡ isShards d w → not r ≡ false → d ≤ mostShards
 small-shards d w r e t = omega (arith, shards-means d w .0 (sym e ∙ not-false r t))
 
 pub some-majority : (n majority : ℕ) (r : Bool) → r ≡ isQuorum n majority → not r ≡ false → 0 < majority

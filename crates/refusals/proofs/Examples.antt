@@ -11,7 +11,7 @@ use Rattle.refusals.specs.Limits.{isPopulation, isShards, isSize, isFaul
 refused : ℕ → ℕ → ℕ → ℕ
 refused n d w = firstOf (unless (isPopulation n) POPULATION ∷ unless (isShards d w) SHARDS ∷ unless false TABLE ∷ [])
 
-first : refused 0 0 0 ∷ refused 17 4 5 ∷ refused 16 0 5 ∷ refused 16 6 5 ∷ refused 16 64 65 ∷ refused 16 64 64 ∷ [] ≡ 1 ∷ 1 ∷ 4 ∷ 4 ∷ 4 ∷ 17 ∷ []
+first : refused 0 0 0 ∷ refused 17 4 5 ∷ refused 16 0 5 ∷ refused 16 6 5 ∷ refused 16 64 256 ∷ refused 16 255 255 ∷ [] ≡ 1 ∷ 1 ∷ 4 ∷ 4 ∷ 4 ∷ 17 ∷ []
 unfolding refused isPopulation isShards
 first = refl
 

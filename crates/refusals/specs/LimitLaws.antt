@@ -4,17 +4,20 @@ use mathlib.Core.Logic.{_↔_}
 use mathlib.Core.Bool.{Bool, true, false, not, _&&_, and-eq-true-iff}
 use mathlib.Core.List.{List}
 use Prim.Native.Nat.{ℕ, _^_, _≤_, _<_}
+use native.Mathlib.Nat.{lt-of-lt-of-le}
 use native.Mathlib.Decide.{decLt, ℕ-discrete}
 use native.Mathlib.Omega.{arith}
 use lib.Dec.{leb, eqb}
-use lib.ListN.{length}
+use lib.ListN.{length, getD, List·getD-eq-default}
+use lib.Pow.{pow-pos, pow-mono}
 use borrow.Author.Tests.{leb-true, le-leb, ltb-true, lt-ltb, le-ltb, eqb-false, eq-eqb, ne-eqb, not-true, not-false}
 use Rattle.lists.specs.All.{all}
 use Rattle.lists.specs.AllLaws.{Each, all-means}
 use Rattle.lists.specs.BelowLaws.{none-below-means}
 use Rattle.bitmap.specs.Mask.{bit, allBelow}
 use Rattle.bitmap.specs.MaskLaws.{below-means, full-bit, full}
-use Rattle.refusals.specs.Limits.{isPopulation, isShards, isQuorum, isInFlight, isOverfull, peersFit, isMask, isRow, isFaultSet, isFaultList, isUnder}
+use Rattle.rows.specs.TableLaws.{Rows}
+use Rattle.refusals.specs.Limits.{mostShards, isPopulation, isShards, isQuorum, isInFlight, isOverfull, peersFit, isMask, isRow, isFaultSet, isFaultList, isUnder}
 
 -- a bound and what else is tested
 bound : (a b : ℕ) (t : Bool) → ((leb a b && t) ≡ true) ↔ ((a ≤ b) × (t ≡ true))
@@ -38,14 +41,14 @@ pub quorum-means : (n q : ℕ) → (isQuorum n q ≡ true) ↔ ((1 ≤ q) × (q 
 unfolding isQuorum
 quorum-means n q = between 1 q q n
 
-pub shards-means : (d w : ℕ) → (isShards d w ≡ true) ↔ ((1 ≤ d) × (d ≤ w) × (w ≤ 64))
+pub shards-means : (d w : ℕ) → (isShards d w ≡ true) ↔ ((1 ≤ d) × (d ≤ w) × (w ≤ 255))
 unfolding isShards
 shards-means d w = (
   λ e.
-      let p = bound 1 d (leb d w && leb w 64) .0 e in
-      let q = between d w w 64 .0 (p .1) in
+      let p = bound 1 d (leb d w && leb w mostShards) .0 e in
+      let q = between d w w mostShards .0 (p .1) in
       (p .0, q .0, q .1),
-  λ h. bound 1 d (leb d w && leb w 64) .1 (h .0, between d w w 64 .1 (h .1, h .2)),
+  λ h. bound 1 d (leb d w && leb w mostShards) .1 (h .0, between d w w mostShards .1 (h .1, h .2)),
 )
 
 -- at most 2 ^ 40 bytes are in flight to each peer
@@ -110,3 +113,11 @@ fault-list-means n faults = (
 -- as many rows as replicas, each of shards below the width: what the checks for 16 and 17 ask of a table of rows
 abbrev pub AreRows : ℕ → ℕ → List ℕ → Type 0
 AreRows n w rows = (length rows ≡ n) × (all (isRow w) rows ≡ true)
+
+-- such rows of a width that has been tested have room in four words
+pub rows-small : (n w : ℕ) (rows : List ℕ) → AreRows n w rows → w ≤ mostShards → Rows rows
+rows-small n w rows r l i = go (decLt i (length rows))
+  where
+    go : Dec (i < length rows) → getD rows i 0 < 2 ^ 256
+    go (yes k) = lt-of-lt-of-le (ltb-true (getD rows i 0) (2 ^ w) (all-means (isRow w) 0 rows .0 (r .1) i k)) (pow-mono {i = w} {j = 256} (omega arith))
+    go (no k) = rw (List·getD-eq-default rows 0 {n = i} (omega arith)) (pow-pos 256)

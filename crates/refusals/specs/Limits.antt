@@ -1,5 +1,5 @@
 -- The bounds of the port, as tests. Assumes nothing.
-use Prim.Native.Nat.{ℕ, _^_}
+use Prim.Native.Nat.{ℕ, _*_, _^_}
 use mathlib.Core.Bool.{Bool, not, _&&_}
 use mathlib.Core.List.{List}
 use lib.Dec.{leb, ltb, eqb}
@@ -7,6 +7,7 @@ use lib.ListN.{length}
 use Rattle.lists.specs.All.{all}
 use Rattle.lists.specs.Below.{someBelow}
 use Rattle.bitmap.specs.Mask.{isBelow, allBelow}
+use Rattle.rows.specs.Row.{rowsIn}
 
 -- population: 1 to 16
 unfoldable pub isPopulation : ℕ → Bool
@@ -20,9 +21,13 @@ isTolerance n f = ltb f n
 abbrev pub isReplica : ℕ → ℕ → Bool
 isReplica n s = ltb s n
 
--- data shards: 1 to 64; width, or its ceiling: d to 64
+-- the most shards that a value is cut into
+abbrev pub mostShards : ℕ
+mostShards = 255
+
+-- data shards: 1 to that; width, or its ceiling: d to that
 unfoldable pub isShards : ℕ → ℕ → Bool
-isShards d w = leb 1 d && (leb d w && leb w 64)
+isShards d w = leb 1 d && (leb d w && leb w mostShards)
 
 -- quorum and majority: 1 to n
 unfoldable pub isQuorum : ℕ → ℕ → Bool
@@ -51,6 +56,14 @@ isMask n m = isBelow n m
 -- a row with no shard at or above w
 abbrev pub isRow : ℕ → ℕ → Bool
 isRow w row = isBelow w row
+
+-- a lent table of such rows; a last one that is not whole is tested too
+abbrev pub areRows : ℕ → List ℕ → Bool
+areRows w table = all (isRow w) (rowsIn table)
+
+-- a lent table of n rows, four words a row
+abbrev pub isTable : ℕ → ℕ → Bool
+isTable n words = eqb words (n * 4)
 
 -- a set of some of n replicas, and not of all
 abbrev pub isFaultSet : ℕ → ℕ → Bool

@@ -3,8 +3,13 @@ ghost use mathlib.Core.Path.{_≡_};
 ghost use Prim.Native.Nat.{_≤_};
 ghost use Rattle.lists.specs.All.{all};
 ghost use Rattle.bitmap.specs.Mask.{isBelow};
-ghost use Rattle.refusals.specs.Limits.{isPopulation, isTolerance, isReplica, isShards, isQuorum, isSize, isInFlight, isOverfull, isMask, isRow, isUnder, isFaultList};
+ghost use Rattle.refusals.specs.Limits.{isPopulation, isTolerance, isReplica, isShards, isQuorum, isSize, isInFlight, isOverfull, isMask, isRow, areRows, isTable, isUnder, isFaultList};
+ghost use Rattle.rows.specs.Row.{rowOf};
 use bitmap::ReplicaId;
+use rows::Row;
+
+// The most shards that a value is cut into.
+pub const MOST_SHARDS: usize = 255;
 
 // The population.
 pub const POPULATION: u8 = 1;
@@ -93,7 +98,7 @@ pub fn is_replica(n: usize, s: ReplicaId) -> bool
     s.0 < n
 }
 
-// From 1 to 64 data shards, and a width, or its ceiling, from those to 64.
+// From 1 to MOST_SHARDS data shards, and a width, or its ceiling, from those to MOST_SHARDS.
 pub fn is_shards(d: usize, w: usize) -> bool
     ensures { λ r. ⌜ r ≡ isShards d w ⌝ }
 {
@@ -103,7 +108,7 @@ pub fn is_shards(d: usize, w: usize) -> bool
     if w < d {
         return false;
     }
-    w <= 64
+    w <= MOST_SHARDS
 }
 
 // A quorum, or a majority, from 1 to n.
@@ -148,17 +153,27 @@ pub fn is_mask(n: usize, m: u64) -> bool
 }
 
 // A row of shards below w.
-pub fn is_row(w: usize, row: u64) -> bool
-    ensures { λ r. ⌜ r ≡ isRow w row ⌝ }
+pub fn is_row(w: usize, row: Row) -> bool
+    ensures { λ r. ⌜ r ≡ isRow w (rowOf row) ⌝ }
 {
-    bitmap::is_below(row, w)
+    rows::is_below(row, w)
 }
 
-// Rows of shards below w.
-pub fn are_rows(w: usize, rows: &[u64]) -> bool
-    ensures { λ r. ⌜ r ≡ all (isRow w) (now (rows .entry)) ⌝ }
+// Rows of shards below w, in a table of four words a row.
+pub fn are_rows(w: usize, table: &[u64]) -> bool
+    ensures { λ r. ⌜ r ≡ areRows w (now (table .entry)) ⌝ }
 {
-    are_below(rows, w)
+    rows::are_below(table, w)
+}
+
+// The words of a table of n rows, four words a row.
+pub fn is_table(n: usize, words: usize) -> bool
+    ensures { λ r. ⌜ r ≡ isTable n words ⌝ }
+{
+    if words % 4 != 0 {
+        return false;
+    }
+    words / 4 == n
 }
 
 // Masks of some of n replicas.

@@ -33,23 +33,26 @@ fn others() {
 
 // A layout text of 3 replicas, 6 shards in all and 4 data shards.
 fn text(s: &[u8]) {
-    let mut rows = [0u64; 3];
+    let mut rows = [0u64; 12];
     initial(3, 6, 4, s, &mut rows);
 }
 
-// n 16 and 17, w 64 and 65: the width of a layout text, which is exact, and a ceiling.
+// n 16 and 17, w 255 and 256: the width of a layout text, which is exact, and a ceiling.
 fn bounds() {
-    let mut sixteen = [0u64; 16];
-    let mut seventeen = [0u64; 17];
-    let mut five = [0u64; 5];
+    let mut sixteen = [0u64; 64];
+    let mut seventeen = [0u64; 68];
+    let mut fifteen = [0u64; 60];
     initial(16, 64, 4, b"", &mut sixteen);
     initial(17, 34, 4, b"", &mut seventeen);
-    initial(5, 65, 4, b"", &mut five);
+    initial(15, 255, 4, b"", &mut fifteen);
+    initial(16, 256, 4, b"", &mut sixteen);
     let full = [4usize; 16];
     let over = [4usize; 17];
+    let wide = [16usize; 16];
     laid(16, 5, 64, &full, &mut sixteen);
     laid(17, 5, 64, &over, &mut seventeen);
-    laid(16, 5, 65, &full, &mut sixteen);
+    laid(16, 17, 255, &wide, &mut sixteen);
+    laid(16, 17, 256, &wide, &mut sixteen);
 }
 
 // A layout text: the rows.
@@ -70,11 +73,15 @@ fn initial(n: usize, total: usize, d: usize, s: &[u8], rows: &mut [u64]) {
     }
 }
 
-// A layout under a ceiling: the width and the rows.
+// A layout of equal loads under a ceiling: the width and the rows.
 fn laid(n: usize, d: usize, ceiling: usize, loads: &[usize], rows: &mut [u64]) {
+    if loads.len() == 0 {
+        return;
+    }
     printed::number(b"n ", n);
     printed::number(b", d ", d);
-    printed::number(b", loads of 4, ceiling ", ceiling);
+    printed::number(b", loads of ", loads[0]);
+    printed::number(b", ceiling ", ceiling);
     io::write_all(1, b": ");
     match layout::layout_rows(n, d, TotalShards::AtMost(ceiling), loads, rows) {
         Laid::Refused(no) => {
@@ -112,11 +119,11 @@ fn profile(s: &[u8]) {
 
 // The shards of each row.
 fn print_rows(rows: &[u64]) {
-    for i in 0..rows.len() {
-        if i > 0 {
+    for s in 0..rows.len() / 4 {
+        if s > 0 {
             io::write_all(1, b"; ");
         }
-        printed::members(rows[i]);
+        printed::shards(rows::row_in(rows, s));
     }
     io::write_all(1, b"\n");
 }

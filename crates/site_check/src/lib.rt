@@ -256,7 +256,7 @@ fn of_shards(text: &[u8]) -> Place {
     if d == 0 {
         return site::find(text, b"data-shards", 0, 0);
     }
-    if 64 < d {
+    if 255 < d {
         return site::find(text, b"data-shards", 0, 0);
     }
     site::find(text, b"width", 0, 0)
@@ -283,7 +283,7 @@ fn meaning(no: u8) {
         refusals::REPLICA => io::write_all(1, b"a replica's number is not below the population"),
         refusals::SHARDS => io::write_all(
             1,
-            b"the data shards are not 1 to 64, or the width is not between them and 64",
+            b"the data shards are not 1 to 255, or the width is not between them and 255",
         ),
         refusals::QUORUM => io::write_all(1, b"the quorum is not 1 to the population"),
         refusals::TEXT => io::write_all(

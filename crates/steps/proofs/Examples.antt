@@ -68,6 +68,7 @@ sheet =
     -- alone
     ∷ line 1 0 0 1 1 0 idle (unknown ∷ []) 0 (0 ∷ [])
     ∷ line 1 0 0 64 1 1073741824 idle [] 0 (0 ∷ [])
+    ∷ line 1 0 0 255 1 1073741824 idle [] 0 (0 ∷ [])
     -- more to hear from than there are: infinity
     ∷ line 3 2 0 2 2 2097152 idle (usual ∷ usual ∷ usual ∷ []) 1 (infinity ∷ 0x4008_0001_0000_0000 ∷ [])
     ∷ line 4 3 3 4 4 4096 idle (usual ∷ flat two ∷ usual ∷ usual ∷ []) 3 (infinity ∷ infinity ∷ infinity ∷ two ∷ [])
@@ -90,6 +91,10 @@ sheet =
     ∷ line 2 1 1 4 2 4194303 idle (model one 0 0 ∷ []) 1 (infinity ∷ 0x4010_0000_0000_0000 ∷ [])
     ∷ line 2 1 1 4 2 4194304 idle (model one 0 0 ∷ []) 1 (infinity ∷ 0x4010_0001_0000_0000 ∷ [])
     ∷ line 2 1 1 64 2 0 idle (model 0x4130_0000_0000_0000 0 0 ∷ []) 1 (infinity ∷ 0x4050_0000_0000_0000 ∷ [])
+    -- more than 64 shards a replica
+    ∷ line 2 1 1 254 2 0 idle (model 0x4130_0000_0000_0000 0 0 ∷ []) 1 (infinity ∷ 0x406f_c000_0000_0000 ∷ [])
+    ∷ line 3 0 0 255 3 0 idle (unknown ∷ model 0x4130_0000_0000_0000 0 0 ∷ model 0x4130_0000_0000_0000 0 0 ∷ []) 2 (0x4055_4000_0000_0000 ∷ 0x4065_4000_0000_0000 ∷ 0 ∷ [])
+    ∷ line 2 1 1 255 1 1073741824 idle (model 0x4130_0000_0000_0000 0 0 ∷ []) 0 (0x41d0_0000_2fc0_0000 ∷ [])
     ∷ line 2 1 0 1 1 1073741824 idle (usual ∷ model 0x3fd3_3333_3333_3333 0x3fb9_9999_9999_999a 0x3fc9_9999_9999_999a ∷ []) 0 (0x4073_3800_004c_cccd ∷ [])
     -- our own in the middle; its record is unread, and so are those past the population
     ∷ line 5 1 2 3 3 3000000 (0 ∷ 0 ∷ 9223372036854775808 ∷ 0 ∷ 0 ∷ 9223372036854775808 ∷ []) (flat one ∷ flat three ∷ unknown ∷ flat two ∷ flat 0x401c_0000_0000_0000 ∷ unknown ∷ []) 2 (three ∷ two ∷ one ∷ [])

@@ -12,6 +12,7 @@ use Rattle.lists.specs.AllLaws.{inside-any}
 use Rattle.lists.specs.Sort.{sortedBy}
 use Rattle.floats.specs.Floats.{totalLe}
 use Rattle.refusals.specs.LimitLaws.{InFlight}
+use Rattle.refusals.specs.Limits.{mostShards}
 use Rattle.times.specs.declared.PerfModel.{PerfModel}
 use Rattle.times.specs.Times.{never, predictOf}
 use Rattle.steps.specs.Steps.{peerAt, inFlight, still, peerTime, peerTimes, stepTime, stepShards, bestStep}
@@ -37,10 +38,10 @@ module _ (n own q load m : ℕ) (inflight : List ℕ) (models : List PerfModel) 
   step-is times unsorted sorted read r t u s w e = rw (le-ltb q 2 several, peers, e, w, s, u, t)
 
 -- ---- the load of a step is within bounds
-pub load-le : (d majority i size : ℕ) → i < majority → d ≤ 64 → size ≤ 2 ^ 30 → (size / d + 1) * stepShards d majority i ≤ 2 ^ 40
+pub load-le : (d majority i size : ℕ) → i < majority → d ≤ mostShards → size ≤ 2 ^ 30 → (size / d + 1) * stepShards d majority i ≤ 2 ^ 40
 load-le d majority i size h e g =
     let a : size / d + 1 ≤ 2 ^ 30 + 1 = omega (arith, div-le-self size d) in
-    let b : stepShards d majority i ≤ 64 = omega (arith, step-shards-le d majority i h) in
+    let b : stepShards d majority i ≤ 255 = omega (arith, step-shards-le d majority i h) in
     omega (arith, mul-le-mul a b)
 
 -- ---- the step chosen is below the majority

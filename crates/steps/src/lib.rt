@@ -3,6 +3,7 @@ ghost use mathlib.Core.Path.{_≡_};
 ghost use Prim.Native.Nat.{_+_, _%_, _≤_, _<_, _^_};
 ghost use lib.ListN.{length, getD};
 ghost use Rattle.refusals.specs.LimitLaws.{InFlight};
+ghost use Rattle.refusals.specs.Limits.{mostShards};
 ghost use Rattle.times.specs.Times.{never};
 ghost use Rattle.steps.specs.Steps.{inFlight, peerAt, peerTimes, stepTime, timeOfStep, bestStep};
 use bitmap::ReplicaId;
@@ -19,7 +20,7 @@ pub fn best_step(
     inflight: [u64; 16],
     models: [PerfModel; 16],
 ) -> usize
-    requires { ⌜ (0 < n) × (n ≤ 16) × (f < n) × (d ≤ 64) × (0 < d) × (0 < majority) × (majority ≤ n) × (d % majority ≡ 0) × (size ≤ 2 ^ 30) ⌝ }
+    requires { ⌜ (0 < n) × (n ≤ 16) × (f < n) × (d ≤ mostShards) × (0 < d) × (0 < majority) × (majority ≤ n) × (d % majority ≡ 0) × (size ≤ 2 ^ 30) ⌝ }
     requires { ⌜ InFlight n (own .0) (inFlight inflight) ⌝ }
     ensures { λ r. ⌜ r ≡ bestStep n f (own .0) d majority size inflight models ⌝ }
 {
@@ -50,7 +51,7 @@ fn time_of_step(
     models: [PerfModel; 16],
     i: usize,
 ) -> f64
-    requires { ⌜ (0 < n) × (n ≤ 16) × (f < n) × (d ≤ 64) × (0 < d) × (0 < majority) × (majority ≤ n) × (i < majority) × (size ≤ 2 ^ 30) ⌝ }
+    requires { ⌜ (0 < n) × (n ≤ 16) × (f < n) × (d ≤ mostShards) × (0 < d) × (0 < majority) × (majority ≤ n) × (i < majority) × (size ≤ 2 ^ 30) ⌝ }
     requires { ⌜ InFlight n (own .0) (inFlight inflight) ⌝ }
     ensures { λ r. ⌜ r ≡ timeOfStep n f (own .0) d majority size inflight models i ⌝ }
 {

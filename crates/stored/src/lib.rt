@@ -8,6 +8,7 @@ use c_types::Layout;
 use c_types::Plan;
 use c_types::Profile;
 use c_types::Reply;
+use rows::Row;
 
 // The most words of a table that is written.
 const MOST_WORDS: usize = 512;
@@ -70,6 +71,16 @@ pub fn number(w: &[u64], i: usize) -> usize {
     at(w, i) as usize
 }
 
+// The row with which w begins.
+pub fn row(w: &[u64]) -> Row {
+    Row {
+        w0: at(w, 0),
+        w1: at(w, 1),
+        w2: at(w, 2),
+        w3: at(w, 3),
+    }
+}
+
 pub fn after(w: &[u64], i: usize) -> &[u64] {
     if i <= w.len() {
         return &w[i..];
@@ -123,6 +134,28 @@ pub fn same(a: &[u64], b: &[u64]) -> bool {
     let mut i = 0;
     while i < a.len() {
         if a[i] != b[i] {
+            return false;
+        }
+        i += 1;
+    }
+    true
+}
+
+// Whether a table of four words a row has these rows of one word: each the first of its four, and the others 0.
+pub fn same_first(a: &[u64], b: &[u64]) -> bool {
+    if a.len() % 4 != 0 {
+        return false;
+    }
+    if a.len() / 4 != b.len() {
+        return false;
+    }
+    let mut i = 0;
+    while i < b.len() {
+        let row = rows::row_in(a, i);
+        if row.w0 != b[i] {
+            return false;
+        }
+        if (row.w1 | row.w2 | row.w3) != 0 {
             return false;
         }
         i += 1;

@@ -5,6 +5,9 @@ use mathlib.Core.Bool.{true, false}
 use mathlib.Core.List.{List, [], _∷_, map}
 use Prim.Native.Nat.{ℕ}
 use Rattle.bitmap.specs.Mask.{count}
+use lib.ListN.{replicate}
+use Rattle.lists.specs.Below.{eachBelow}
+use Rattle.rows.specs.Row.{value, wordsOf, rowIn, rowsIn, spelled}
 use Rattle.refusals.specs.Outcome.{Outcome, refused, accepted}
 use Rattle.refusals.specs.Limits.{isPopulation, isShards, isQuorum, isFaultList}
 use Rattle.coverage.specs.Coverage.{unionOf, leaves, isCovered, commits}
@@ -59,7 +62,7 @@ answers t [] = []
 answers t (l ∷ ls) = replyOf t (l .reply) ∷ answers (tallyAfter t (l .reply)) ls
 
 ran : answers opened run ≡ map (λ (l : Line). l .says) run
-unfolding ones opened fresh from line run answers replyOf tallyAfter replyRefusal isSameValue isPopulation isShards isQuorum isFaultList noted isCommitting commits isCovered leaves unionOf count
+unfolding ones opened fresh from line run answers replyOf tallyAfter replyRefusal isSameValue isPopulation isShards isQuorum isFaultList value wordsOf spelled rowIn rowsIn eachBelow noted isCommitting commits isCovered leaves unionOf count
 ran = refl
 
 -- of the run, what was said to those not refused; and the tally afterwards, with the rows of the replies that were counted:
@@ -69,11 +72,11 @@ unfolding line run
 given = map (λ (l : Line). l .reply) run
 
 said : map (λ (u : Taken). u .1) (taken opened given) ≡ false ∷ false ∷ false ∷ false ∷ true ∷ true ∷ true ∷ true ∷ []
-unfolding ones opened fresh from line run given replyOf tallyAfter replyRefusal isSameValue isPopulation isShards isQuorum isFaultList noted isCommitting commits isCovered leaves unionOf count
+unfolding ones opened fresh from line run given replyOf tallyAfter replyRefusal isSameValue isPopulation isShards isQuorum isFaultList value wordsOf spelled rowIn rowsIn eachBelow noted isCommitting commits isCovered leaves unionOf count
 said = refl
 
-left : afterAll opened given ≡ updated opened 7 true (1 ∷ 2 ∷ 5 ∷ 0 ∷ 0 ∷ 0 ∷ 0 ∷ 0 ∷ 0 ∷ 0 ∷ 0 ∷ 0 ∷ 0 ∷ 0 ∷ 0 ∷ 0 ∷ [])
-unfolding ones opened fresh from line run given replyOf tallyAfter replyRefusal isSameValue isPopulation isShards isQuorum isFaultList noted isCommitting commits isCovered leaves unionOf count
+left : afterAll opened given ≡ updated opened 7 true (spelled (1 ∷ 2 ∷ 5 ∷ replicate 13 0))
+unfolding ones opened fresh from line run given replyOf tallyAfter replyRefusal isSameValue isPopulation isShards isQuorum isFaultList value wordsOf spelled rowIn rowsIn eachBelow noted isCommitting commits isCovered leaves unionOf count
 left = refl
 
 -- ---- a tally that did not come from an opening
@@ -88,7 +91,7 @@ odd tally reply says = record { tally = tally; reply = reply; says = says }
 -- that tally with other words
 holding : ℕ → List ℕ → Tally
 unfolding opened fresh
-holding heard rows = updated opened heard false rows
+holding heard rows = updated opened heard false (spelled rows)
 
 odds : List Odd
 unfolding odd holding from ones
@@ -103,7 +106,7 @@ odds =
     ∷ odd (fresh 17 2 2 3 7 8 9) (from 0 1) (refused 1)
     ∷ odd (fresh 3 2 0 3 7 8 9) (from 0 1) (refused 4)
     ∷ odd (fresh 3 2 4 3 7 8 9) (from 0 1) (refused 4)
-    ∷ odd (fresh 3 2 2 65 7 8 9) (from 0 1) (refused 4)
+    ∷ odd (fresh 3 2 2 256 7 8 9) (from 0 1) (refused 4)
     ∷ odd (fresh 3 0 2 3 7 8 9) (from 0 1) (refused 5)
     ∷ odd (fresh 3 4 2 3 7 8 9) (from 0 1) (refused 5)
     -- its heard mask, a row of it
@@ -124,12 +127,12 @@ odds =
     ∷ []
 
 answered : map (λ (o : Odd). replyOf (o .tally) (o .reply)) odds ≡ map (λ (o : Odd). o .says) odds
-unfolding ones opened fresh holding from odd odds replyOf replyRefusal isSameValue isPopulation isShards isQuorum isFaultList noted isCommitting commits isCovered leaves unionOf count
+unfolding ones opened fresh holding from odd odds replyOf replyRefusal isSameValue isPopulation isShards isQuorum isFaultList value wordsOf spelled rowIn rowsIn eachBelow noted isCommitting commits isCovered leaves unionOf count
 answered = refl
 
 -- ---- openings
 openings : map (λ (o : ℕ × ℕ × ℕ × ℕ). openRefusal (o .0) (o .1) (o .2) (o .3))
-    ((3, 2, 2, 3) ∷ (16, 16, 64, 64) ∷ (1, 1, 1, 1) ∷ (0, 0, 2, 3) ∷ (17, 2, 2, 3) ∷ (3, 2, 0, 3) ∷ (3, 2, 4, 3) ∷ (3, 2, 2, 65) ∷ (3, 0, 2, 3) ∷ (3, 4, 2, 3) ∷ (17, 2, 0, 3) ∷ (3, 4, 0, 3) ∷ [])
+    ((3, 2, 2, 3) ∷ (16, 16, 255, 255) ∷ (1, 1, 1, 1) ∷ (0, 0, 2, 3) ∷ (17, 2, 2, 3) ∷ (3, 2, 0, 3) ∷ (3, 2, 4, 3) ∷ (3, 2, 2, 256) ∷ (3, 0, 2, 3) ∷ (3, 4, 2, 3) ∷ (17, 2, 0, 3) ∷ (3, 4, 0, 3) ∷ [])
     ≡ 0 ∷ 0 ∷ 0 ∷ 1 ∷ 1 ∷ 4 ∷ 4 ∷ 4 ∷ 5 ∷ 5 ∷ 1 ∷ 4 ∷ []
 unfolding openRefusal isPopulation isShards isQuorum
 openings = refl

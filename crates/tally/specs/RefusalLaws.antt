@@ -2,13 +2,14 @@
 use mathlib.Core.Path.{_≡_, refl}
 use mathlib.Core.Logic.{_↔_}
 use mathlib.Core.Bool.{true, _&&_, and-eq-true-iff}
-use Prim.Native.Nat.{ℕ, _^_, _≤_, _<_}
+use Prim.Native.Nat.{ℕ, _*_, _^_, _≤_, _<_}
 use lib.Dec.{eqb}
 use lib.ListN.{take}
 use borrow.Author.Tests.{ltb-true, lt-ltb, eqb-true, eq-eqb, not-false}
 use Rattle.lists.specs.AllLaws.{Each, all-means}
+use Rattle.rows.specs.Row.{rowsIn}
 use Rattle.refusals.specs.FirstLaws.{none-holds}
-use Rattle.refusals.specs.Limits.{isRow}
+use Rattle.refusals.specs.Limits.{mostShards, isRow}
 use Rattle.refusals.specs.LimitLaws.{population-means, shards-means, quorum-means, fault-list-means}
 use Rattle.coverage.specs.RefusalLaws.{FaultList}
 use Rattle.tally.specs.declared.Tally.{Tally}
@@ -18,7 +19,7 @@ use Rattle.tally.specs.Tally.{Reply, openCases, openRefusal, replyCases,
 module _ (n quorum d w : ℕ) where
   pub record Openable : Type 0 where
     pub population : (1 ≤ n) × (n ≤ 16)
-    pub shards : (1 ≤ d) × (d ≤ w) × (w ≤ 64)
+    pub shards : (1 ≤ d) × (d ≤ w) × (w ≤ mostShards)
     pub enough : (1 ≤ quorum) × (quorum ≤ n)
 
   pub openable : (openRefusal n quorum d w ≡ 0) ↔ Openable
@@ -54,7 +55,7 @@ module _ (t : Tally) (r : Reply) where
     pub opening : Openable (t .population) (t .quorum) (t .«data_shards») (t .width)
     pub replica : r .source < t .population
     pub mask : t .heard < 2 ^ t .population
-    pub each-row : Each (isRow (t .width)) 0 (take (t .population) (t .rows))
+    pub each-row : Each (isRow (t .width)) 0 (rowsIn (take (t .population * 4) (t .rows)))
     pub row : r .row < 2 ^ t .width
     pub list : FaultList (t .population) (r .faults)
     pub ballot : t .ballot ≡ r .ballot
@@ -75,7 +76,7 @@ module _ (t : Tally) (r : Reply) where
           };
           replica = ltb-true (r .source) (t .population) (not-false _ (h .1 .0));
           mask = ltb-true (t .heard) (2 ^ t .population) (not-false _ (h .1 .1 .1 .1 .0));
-          each-row = all-means (isRow (t .width)) 0 (take (t .population) (t .rows)) .0 (not-false _ (h .1 .1 .1 .1 .1 .0));
+          each-row = all-means (isRow (t .width)) 0 (rowsIn (take (t .population * 4) (t .rows))) .0 (not-false _ (h .1 .1 .1 .1 .1 .0));
           row = ltb-true (r .row) (2 ^ t .width) (not-false _ (h .1 .1 .1 .1 .1 .1 .0));
           list = fault-list-means (t .population) (r .faults) .0 (not-false _ (h .1 .1 .1 .1 .1 .1 .1 .0));
           ballot = v .0;
@@ -89,7 +90,7 @@ module _ (t : Tally) (r : Reply) where
           shards-means (t .«data_shards») (t .width) .1 (s .opening .shards),
           quorum-means (t .population) (t .quorum) .1 (s .opening .enough),
           lt-ltb (t .heard) (2 ^ t .population) (s .mask),
-          all-means (isRow (t .width)) 0 (take (t .population) (t .rows)) .1 (s .each-row),
+          all-means (isRow (t .width)) 0 (rowsIn (take (t .population * 4) (t .rows))) .1 (s .each-row),
           lt-ltb (r .row) (2 ^ t .width) (s .row),
           fault-list-means (t .population) (r .faults) .1 (s .list),
           same-value-means t (r .ballot) (r .high) (r .low) .1 (s .ballot, s .high, s .low),

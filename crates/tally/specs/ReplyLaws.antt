@@ -5,23 +5,25 @@ use mathlib.Core.Logic.{_↔_, Iff·trans, _⊎_, inl, inr, ⊎-elim, ⊎-map}
 use mathlib.Core.Bool.{Bool, true, false, cond, true≢false}
 use mathlib.Core.List.{List, [], _∷_, _++_, append-nil, append-assoc, List·Memᴰ, List·Memᴰ·head, List·Memᴰ·not-nil, List·Memᴰ·append-cases}
 use mathlib.Core.List.{List·Memᴰ·eq-of-singleton, Memᴰ·append-left, Memᴰ·append-right}
-use Prim.Native.Nat.{ℕ, zero, suc, _^_, _≤_, _<_}
+use Prim.Native.Nat.{ℕ, zero, suc, _+_, _*_, _^_, _≤_, _<_}
+use native.Mathlib.Nat.{lt-of-lt-of-le}
 use native.Mathlib.Decide.{ℕ-discrete}
 use native.Mathlib.Omega.{arith}
 use lib.Bits.{bitOr, or-lt}
 use lib.Dec.{eqb}
-use lib.ListN.{length, getD, set, take, replicate, length-set}
-use lib.Pow.{pow-lt, pow-pos}
-use lib.Seq.{getD-set-same, getD-set-other}
+use lib.ListN.{length, getD, take, replicate}
+use lib.Pow.{pow-lt, pow-mono, pow-pos}
 use borrow.Author.Tests.{lt-ltb, eq-eqb, ne-eqb, eqb-false}
 use Rattle.lists.specs.All.{all, AllOf}
 use Rattle.lists.specs.AllLaws.{all-of-means, all-of-map}
-use Rattle.bitmap.specs.Mask.{bit, hasBit, withBit, rowIn}
+use Rattle.bitmap.specs.Mask.{bit, hasBit, withBit}
+use Rattle.rows.specs.Row.{rowIn, withRow}
+use Rattle.rows.specs.TableLaws.{no-row, first-row, first-rows-below, row-below, with-row-same, with-row-other, with-row-length}
 use Rattle.bitmap.specs.MaskLaws.{bit-none, or-means, with-means}
 use Rattle.bitmap.specs.Members.{many-map}
 use Rattle.refusals.specs.Limits.{isRow}
 use Rattle.refusals.specs.Outcome.{outcome, written}
-use Rattle.coverage.specs.Coverage.{commits}
+use Rattle.coverage.specs.Coverage.{RowsBelow, commits}
 use Rattle.coverage.specs.CoverageLaws.{Held, commits-means}
 use Rattle.tally.specs.declared.Tally.{Tally}
 use Rattle.tally.specs.Tally.{Reply, Said, waiting, committed, alreadyCommitted, openRefusal, fresh, isSameValue, replyRefusal, rowWith}
@@ -63,23 +65,30 @@ refused-leaves t r = go (replyRefusal t r) (saidOf t r) (cond (t .committed) t (
     go zero said u e = absurd (true≢false e)
     go (suc k) said u e = refl
 
--- ---- the rows after a reply
-module _ (t : Tally) (source row : ℕ) where
+-- ---- the rows after a reply, of a source that has a row in the tally
+module _ (t : Tally) (source row : ℕ) (room : source * 4 + 4 ≤ length (t .rows)) where
+  abbrev before : ℕ
+  before = rowIn (t .rows) source
+
   -- a first reply replaces what the row held, whatever that was
-  pub first-replaces : source < length (t .rows) → hasBit (t .heard) source ≡ false → rowIn (noted t source row .rows) source ≡ row
+  pub first-replaces : row < 2 ^ 256 → hasBit (t .heard) source ≡ false → rowIn (noted t source row .rows) source ≡ row
   unfolding noted
-  first-replaces l e = getD-set-same (t .rows) source _ 0 l ∙ rw e
+  first-replaces small e =
+      let q : rowWith (t .heard) before source row ≡ row = rw e in
+      with-row-same (t .rows) source _ room (subst (λ (m : ℕ). m < 2 ^ 256) (sym q) small) ∙ q
 
   -- a later one is united with it
-  pub later-unites : source < length (t .rows) → hasBit (t .heard) source ≡ true
-      → rowIn (noted t source row .rows) source ≡ bitOr (rowIn (t .rows) source) row
+  pub later-unites : before < 2 ^ 256 → row < 2 ^ 256 → hasBit (t .heard) source ≡ true
+      → rowIn (noted t source row .rows) source ≡ bitOr before row
   unfolding noted
-  later-unites l e = getD-set-same (t .rows) source _ 0 l ∙ rw e
+  later-unites held small e =
+      let q : rowWith (t .heard) before source row ≡ bitOr before row = rw e in
+      with-row-same (t .rows) source _ room (subst (λ (m : ℕ). m < 2 ^ 256) (sym q) (or-lt 256 before row held small)) ∙ q
 
   -- no other row changes
   pub others-stay : (s : ℕ) → (s ≡ source → ⊥) → rowIn (noted t source row .rows) s ≡ rowIn (t .rows) s
   unfolding noted
-  others-stay s h = getD-set-other (t .rows) source s _ 0 h
+  others-stay s h = with-row-other (t .rows) source _ room s h
 
 -- ---- what is answered
 
@@ -108,39 +117,34 @@ all-stay (r ∷ rs) t =
 
 -- the tally's own words pass their checks
 pub record Sound (t : Tally) : Type 0 where
+  pub long : length (t .rows) ≡ 64
   pub mask : t .heard < 2 ^ t .population
   pub each-row : (s : ℕ) → rowIn (t .rows) s < 2 ^ t .width
 
-rows-pass : (w n : ℕ) (rows : List ℕ) → ((s : ℕ) → rowIn rows s < 2 ^ w) → all (isRow w) (take n rows) ≡ true
-rows-pass w zero rows h = refl
-rows-pass w (suc n) [] h = refl
-rows-pass w (suc n) (x ∷ rows) h = rw (lt-ltb x (2 ^ w) (h zero)) (rows-pass w n rows (λ s. h (suc s)))
-
-no-row : (n s : ℕ) → rowIn (replicate n 0) s ≡ 0
-no-row zero s = refl
-no-row (suc n) zero = refl
-no-row (suc n) (suc s) = no-row n s
-
 pub sound-fresh : (n quorum d w ballot high low : ℕ) → Sound (fresh n quorum d w ballot high low)
 unfolding fresh
-sound-fresh n quorum d w ballot high low = record { mask = pow-pos n; each-row = λ s. rw no-row (pow-pos w) }
+sound-fresh n quorum d w ballot high low = record { long = refl; mask = pow-pos n; each-row = λ s. rw (no-row 64 s) (pow-pos w) }
 
--- what holds of each element, and of d past the end, holds after a write too
-set-each : {A : Type 0} (F : A → Type 0) (d v : A) (xs : List A) (i : ℕ) → F v → ((s : ℕ) → F (getD xs s d)) → (s : ℕ) → F (getD (set xs i v) s d)
-set-each F d v [] i f a s = a s
-set-each F d v (x ∷ xs) zero f a zero = f
-set-each F d v (x ∷ xs) zero f a (suc s) = a (suc s)
-set-each F d v (x ∷ xs) (suc i) f a zero = a zero
-set-each F d v (x ∷ xs) (suc i) f a (suc s) = set-each F d v xs i f (λ k. a (suc k)) s
+-- what holds of each row, and of another one, holds after that is written too
+with-each : (F : ℕ → Type 0) (m : ℕ) (table : List ℕ) (i : ℕ) → i * 4 + 4 ≤ length table → m < 2 ^ 256 → F m → ((s : ℕ) → F (rowIn table s)) → (s : ℕ) → F (rowIn (withRow table i m) s)
+with-each F m table i room h f a s = go (ℕ-discrete s i)
+  where
+    go : Dec (s ≡ i) → F (rowIn (withRow table i m) s)
+    go (yes q) = subst (λ (k : ℕ). F (rowIn (withRow table i m) k)) (sym q) (subst F (sym (with-row-same table i m room h)) f)
+    go (no q) = subst F (sym (with-row-other table i m room s q)) (a s)
 
 module _ (t : Tally) (r : Reply) (sound : Sound t) (e : replyRefusal t r ≡ 0) where
   sound-counted : Sound (counted t r)
   unfolding noted
   sound-counted =
       let f = countable t r .0 e in
+      let m = row (f .row) (hasBit (t .heard) (r .source)) in
+      let k : r .source < 16 = omega (arith, f .replica, f .opening .population) in
+      let room : r .source * 4 + 4 ≤ length (t .rows) = omega (arith, sound .long) in
       record {
+        long = with-row-length (t .rows) (r .source) _ room ∙ sound .long;
         mask = or-lt (t .population) (t .heard) (2 ^ r .source) (sound .mask) (pow-lt (f .replica));
-        each-row = set-each (λ (x : ℕ). x < 2 ^ t .width) 0 _ (t .rows) (r .source) (row (f .row) (hasBit (t .heard) (r .source))) (sound .each-row);
+        each-row = with-each (λ (x : ℕ). x < 2 ^ t .width) _ (t .rows) (r .source) room (lt-of-lt-of-le m (pow-mono {i = t .width} {j = 256} (omega (arith, f .opening .shards)))) m (sound .each-row);
       }
     where
       row : r .row < 2 ^ t .width → (b : Bool) → cond b (bitOr (rowIn (t .rows) (r .source)) (r .row)) (r .row) < 2 ^ t .width
@@ -155,8 +159,8 @@ module _ (t : Tally) (r : Reply) (sound : Sound t) (e : replyRefusal t r ≡ 0) 
       simp (
         lt-ltb (t .heard) (2 ^ t .population) (sound .mask),
         lt-ltb (u .heard) (2 ^ t .population) (sound-counted .mask),
-        rows-pass (t .width) (t .population) (t .rows) (sound .each-row),
-        rows-pass (t .width) (t .population) (u .rows) (sound-counted .each-row),
+        first-rows-below (t .width) (t .population) (t .rows) (sound .each-row),
+        first-rows-below (t .width) (t .population) (u .rows) (sound-counted .each-row),
       )
 
 pub all-decided : (rs : List Reply) (t : Tally) → Sound t → (x : Reply) → replyRefusal (afterAll t rs) x ≡ replyRefusal t x
@@ -228,17 +232,17 @@ module _ (us : List Reply) (r : Reply) where
 
 -- below n, those heard and the shards in the rows are those of the replies
 pub record Sums (n heard : ℕ) (rows : List ℕ) (us : List Reply) : Type 0 where
-  pub long : length rows ≡ 16
+  pub long : length rows ≡ 64
   pub known : (s : ℕ) → Heard us s → s < n
   pub hears : (s : ℕ) → (bit heard s ≡ 1) ↔ Heard us s
   pub knows : (s k : ℕ) → (bit (rowIn rows s) k ≡ 1) ↔ Named us s k
 
-sums-none : (n : ℕ) → Sums n 0 (replicate 16 0) []
+sums-none : (n : ℕ) → Sums n 0 (replicate 64 0) []
 sums-none n = record {
   long = refl;
   known = λ s h. absurd (List·Memᴰ·not-nil (h .given));
   hears = λ s. (λ e. absurd (omega (arith, bit-none s)), λ h. absurd (List·Memᴰ·not-nil (h .given)));
-  knows = λ s k. (λ e. absurd (omega (arith, bit-none k, ap (λ (x : ℕ). bit x k) (no-row 16 s))), λ h. absurd (List·Memᴰ·not-nil (h .given)));
+  knows = λ s k. (λ e. absurd (omega (arith, bit-none k, ap (λ (x : ℕ). bit x k) (no-row 64 s))), λ h. absurd (List·Memᴰ·not-nil (h .given)));
 }
 
 -- two that agree still do with the same added to both
@@ -281,12 +285,15 @@ module _ {n heard : ℕ} {rows : List ℕ} {us : List Reply} (sums : Sums n hear
             holds = sums .knows s k .1 (h .named);
           }
 
-  module _ (r : Reply) (few : n ≤ 16) (fits : r .source < n) where
+  module _ (r : Reply) (few : n ≤ 16) (fits : r .source < n) (small : rowWith heard (rowIn rows (r .source)) (r .source) (r .row) < 2 ^ 256) where
     abbrev held : ℕ
     held = rowIn rows (r .source)
 
     abbrev row : ℕ
     row = rowWith heard held (r .source) (r .row)
+
+    room : r .source * 4 + 4 ≤ length rows
+    room = omega (arith, sums .long)
 
     -- where a first reply replaces the row, nothing stood there
     row-means : (k : ℕ) → (bit row k ≡ 1) ↔ ((bit held k ≡ 1) ⊎ (bit (r .row) k ≡ 1))
@@ -299,23 +306,62 @@ module _ {n heard : ℕ} {rows : List ℕ} {us : List Reply} (sums : Sums n hear
         go true q = or-means held (r .row) k
         go false q = (inr, ⊎-elim (λ e. absurd (eqb-false (bit heard (r .source)) 1 q (is-heard e))) (λ e. e))
 
-    rows-mean : (s k : ℕ) → (bit (rowIn (set rows (r .source) row) s) k ≡ 1) ↔ ((bit (rowIn rows s) k ≡ 1) ⊎ ((r .source ≡ s) × (bit (r .row) k ≡ 1)))
+    rows-mean : (s k : ℕ) → (bit (rowIn (withRow rows (r .source) row) s) k ≡ 1) ↔ ((bit (rowIn rows s) k ≡ 1) ⊎ ((r .source ≡ s) × (bit (r .row) k ≡ 1)))
     rows-mean s k = go (ℕ-discrete s (r .source))
       where
         go : Dec (s ≡ r .source)
-            → (bit (rowIn (set rows (r .source) row) s) k ≡ 1) ↔ ((bit (rowIn rows s) k ≡ 1) ⊎ ((r .source ≡ s) × (bit (r .row) k ≡ 1)))
+            → (bit (rowIn (withRow rows (r .source) row) s) k ≡ 1) ↔ ((bit (rowIn rows s) k ≡ 1) ⊎ ((r .source ≡ s) × (bit (r .row) k ≡ 1)))
         go (yes q) =
-            rw (q, getD-set-same rows (r .source) row 0 (omega (arith, sums .long)))
+            rw (q, with-row-same rows (r .source) row room small)
             (Iff·trans (row-means k) (⊎-map (λ e. e) (λ e. (refl, e)), ⊎-map (λ e. e) (λ e. e .1)))
-        go (no f) = rw (getD-set-other rows (r .source) s row 0 f) (inl, ⊎-elim (λ e. e) (λ e. absurd (f (sym (e .0)))))
+        go (no f) = rw (with-row-other rows (r .source) row room s f) (inl, ⊎-elim (λ e. e) (λ e. absurd (f (sym (e .0)))))
 
-    sums-noted : Sums n (withBit heard (r .source)) (set rows (r .source) row) (us ++ r ∷ [])
+    sums-noted : Sums n (withBit heard (r .source)) (withRow rows (r .source) row) (us ++ r ∷ [])
     sums-noted = record {
-      long = length-set rows (r .source) row ∙ sums .long;
+      long = with-row-length rows (r .source) row room ∙ sums .long;
       known = λ s h. ⊎-elim (sums .known s) (λ q. omega arith) (heard-means us r s .0 h);
       hears = λ s. both-more (with-means heard (r .source) s) (sums .hears s) (heard-means us r s);
       knows = λ s k. both-more (rows-mean s k) (sums .knows s k) (named-means us r s k);
     }
+
+-- ---- the rows that a reply finds and leaves, where it is not refused
+module _ (t : Tally) (r : Reply) (e : replyRefusal t r ≡ 0) where
+  abbrev left : ℕ
+  left = rowWith (t .heard) (rowIn (t .rows) (r .source)) (r .source) (r .row)
+
+  held-below : (s : ℕ) → s < t .population → rowIn (t .rows) s < 2 ^ t .width
+  held-below s l =
+      let f = countable t r .0 e in
+      subst (λ (x : ℕ). x < 2 ^ t .width) (first-row (t .rows) (t .population) s l)
+      (row-below (t .width) (take (t .population * 4) (t .rows)) (f .each-row) s)
+
+  left-below : left < 2 ^ t .width
+  left-below =
+      let f = countable t r .0 e in
+      go (held-below (r .source) (f .replica)) (f .row) (hasBit (t .heard) (r .source))
+    where
+      go : rowIn (t .rows) (r .source) < 2 ^ t .width → r .row < 2 ^ t .width → (b : Bool)
+          → cond b (bitOr (rowIn (t .rows) (r .source)) (r .row)) (r .row) < 2 ^ t .width
+      go h l true = or-lt (t .width) (rowIn (t .rows) (r .source)) (r .row) h l
+      go h l false = l
+
+  -- the row that it leaves has room in four words
+  row-small : left < 2 ^ 256
+  row-small = lt-of-lt-of-le left-below (pow-mono {i = t .width} {j = 256} (omega (arith, countable t r .0 e .opening .shards)))
+
+  -- and in no row of the tally is a shard at or above the width
+  pub noted-rows : length (t .rows) ≡ 64 → RowsBelow (t .population) (t .width) (rowIn (noted t (r .source) (r .row) .rows))
+  unfolding noted
+  noted-rows long s l =
+      let f = countable t r .0 e in
+      let k : r .source < 16 = omega (arith, f .replica, f .opening .population) in
+      go (omega arith) (ℕ-discrete s (r .source))
+    where
+      go : r .source * 4 + 4 ≤ length (t .rows) → Dec (s ≡ r .source) → rowIn (withRow (t .rows) (r .source) left) s < 2 ^ t .width
+      go room (yes q) =
+          subst (λ (k : ℕ). rowIn (withRow (t .rows) (r .source) left) k < 2 ^ t .width) (sym q)
+          (subst (λ (m : ℕ). m < 2 ^ t .width) (sym (with-row-same (t .rows) (r .source) left room row-small)) left-below)
+      go room (no q) = subst (λ (m : ℕ). m < 2 ^ t .width) (sym (with-row-other (t .rows) (r .source) left room s q)) (held-below s l)
 
 -- ---- when a tally is committed
 
@@ -347,7 +393,7 @@ module _ (faults : List ℕ) where
     unfolding noted isCommitting
     right-counted e c l =
         let f = countable t r .0 e in
-        let s = sums-noted (right .sums c) r (f .opening .population .1) (f .replica) in
+        let s = sums-noted (right .sums c) r (f .opening .population .1) (f .replica) (row-small t r e) in
         record {
           exact = rw (← l) (sums-commit s (t .quorum) (t .«data_shards») (r .faults) (heard-means us r (r .source) .1 (inr refl)));
           sums = λ p. s;

@@ -1,16 +1,16 @@
 -- The tally of accept replies: its opening, what refuses a reply, and what a reply does. Assumes nothing.
 use mathlib.Core.Bool.{Bool, true, false, cond, _&&_}
 use mathlib.Core.List.{List, [], _∷_}
-use Prim.Native.Nat.{ℕ}
+use Prim.Native.Nat.{ℕ, _*_}
 use lib.Bits.{bitOr}
 use lib.Dec.{eqb}
-use lib.ListN.{set, take, replicate}
-use Rattle.lists.specs.All.{all}
-use Rattle.bitmap.specs.Mask.{hasBit, withBit, rowIn}
+use lib.ListN.{take, replicate}
+use Rattle.bitmap.specs.Mask.{hasBit, withBit}
+use Rattle.rows.specs.Row.{rowIn, withRow}
 use Rattle.refusals.specs.Numbers.{POPULATION, REPLICA, SHARDS, QUORUM, MASK, TABLE, OTHER_VALUE}
 use Rattle.refusals.specs.First.{Case, unless, firstOf}
 use Rattle.refusals.specs.Outcome.{Outcome, refused, accepted, outcome, written}
-use Rattle.refusals.specs.Limits.{isPopulation, isReplica, isShards, isQuorum, isMask, isRow, isFaultList}
+use Rattle.refusals.specs.Limits.{isPopulation, isReplica, isShards, isQuorum, isMask, isRow, areRows, isFaultList}
 use Rattle.coverage.specs.Coverage.{commits}
 use Rattle.tally.specs.declared.Tally.{Tally}
 use Rattle.tally.specs.declared.Opening.{Opening}
@@ -37,7 +37,7 @@ fresh n quorum d w ballot high low = record {
   «value_low» = low;
   heard = 0;
   committed = false;
-  rows = replicate 16 0;
+  rows = replicate 64 0;
 }
 
 -- the number that refuses, or 0 and the tally; beside a number stands a tally of nothing
@@ -73,7 +73,7 @@ replyCases t r =
     ∷ unless (isShards (t .«data_shards») (t .width)) SHARDS
     ∷ unless (isQuorum (t .population) (t .quorum)) QUORUM
     ∷ unless (isMask (t .population) (t .heard)) MASK
-    ∷ unless (all (isRow (t .width)) (take (t .population) (t .rows))) MASK
+    ∷ unless (areRows (t .width) (take (t .population * 4) (t .rows))) MASK
     ∷ unless (isRow (t .width) (r .row)) MASK
     ∷ unless (isFaultList (t .population) (r .faults)) TABLE
     ∷ unless (isSameValue t (r .ballot) (r .high) (r .low)) OTHER_VALUE
@@ -106,7 +106,7 @@ updated t heard committed rows = record {
 -- the tally with the reply counted
 unfoldable pub noted : Tally → ℕ → ℕ → Tally
 noted t source row =
-    updated t (withBit (t .heard) source) (t .committed) (set (t .rows) source (rowWith (t .heard) (rowIn (t .rows) source) source row))
+    updated t (withBit (t .heard) source) (t .committed) (withRow (t .rows) source (rowWith (t .heard) (rowIn (t .rows) source) source row))
 
 -- at least a quorum is heard and coverage holds
 unfoldable pub isCommitting : Tally → List ℕ → Bool

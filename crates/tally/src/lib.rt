@@ -1,8 +1,14 @@
 // The tally of accept replies for one value at one ballot (handle_msg_accept_reply, after the value id test): the opening, and what a reply does to it.
 ghost use mathlib.Core.Path.{_≡_};
-ghost use Prim.Native.Nat.{_≤_, _<_};
-ghost use Rattle.tally.specs.Tally.{openRefusal, fresh, openingOf, rowWith, noted, isCommitting, told, isSameValue, replyRefusal, answer, isTaken, replyOf, tallyAfter};
+ghost use Prim.Native.Nat.{_+_, _*_, _≤_};
+ghost use lib.ListN.{length, take};
+ghost use Rattle.refusals.specs.Limits.{areRows};
+ghost use Rattle.rows.specs.Row.{rowOf, rowIn, withRow};
+ghost use mathlib.Core.Bool.{cond};
+ghost use Rattle.refusals.specs.Outcome.{accepted};
+ghost use Rattle.tally.specs.Tally.{waiting, committed, openRefusal, fresh, openingOf, rowWith, updated, told, isSameValue, replyRefusal, answer, isTaken, replyOf, tallyAfter};
 use bitmap::ReplicaId;
+use rows::Row;
 
 // Who has replied, and the shards that each has named. The row of a replica not heard has no meaning.
 pub struct Tally {
@@ -15,7 +21,7 @@ pub struct Tally {
     pub value_low: u64,
     pub heard: u64,
     pub committed: bool,
-    pub rows: [u64; 16],
+    pub rows: [u64; 64],
 }
 
 // The number that refuses, beside a tally of nothing; or 0, beside the tally.
@@ -69,13 +75,14 @@ pub fn reply(
     ballot: u64,
     high: u64,
     low: u64,
-    row: u64,
+    row: Row,
     faults: &[u64],
 ) -> Replied
-    ensures { λ r. ⌜ (answer (r .answer) ≡ replyOf t (told (source .0) ballot high low row (now (faults .entry))))
-        × (r .tally ≡ tallyAfter t (told (source .0) ballot high low row (now (faults .entry)))) ⌝ }
+    ensures { λ r. ⌜ (answer (r .answer) ≡ replyOf t (told (source .0) ballot high low (rowOf row) (now (faults .entry))))
+        × (r .tally ≡ tallyAfter t (told (source .0) ballot high low (rowOf row) (now (faults .entry)))) ⌝ }
 {
-    let no = reply_refusal(t, source, ballot, high, low, row, faults);
+    let mut rows = t.rows;
+    let no = reply_refusal(t, &rows, source, ballot, high, low, row, faults);
     if no != 0 {
         return Replied {
             answer: Answer::Refused(no),
@@ -88,18 +95,41 @@ pub fn reply(
             tally: t,
         };
     }
-    let mut u = noted(t, source, row);
-    let commits = is_committing(u, faults);
-    u.committed = commits;
-    if commits {
-        return Replied {
-            answer: Answer::Committed,
-            tally: u,
-        };
-    }
+    note(t.heard, source, row, &mut rows);
+    let heard = bitmap::with_replica(t.heard, source);
+    let commits = coverage::commits(
+        t.population,
+        t.quorum,
+        t.data_shards,
+        t.width,
+        heard,
+        &rows,
+        faults,
+    );
     Replied {
-        answer: Answer::Waiting,
-        tally: u,
+        answer: said(commits),
+        tally: Tally {
+            population: t.population,
+            quorum: t.quorum,
+            data_shards: t.data_shards,
+            width: t.width,
+            ballot: t.ballot,
+            value_high: t.value_high,
+            value_low: t.value_low,
+            heard: heard,
+            committed: commits,
+            rows: rows,
+        },
+    }
+}
+
+fn said(commits: bool) -> Answer
+    ensures { λ r. ⌜ answer r ≡ accepted (cond commits committed waiting) ⌝ }
+{
+    if commits {
+        Answer::Committed
+    } else {
+        Answer::Waiting
     }
 }
 
@@ -110,11 +140,11 @@ pub fn accept_reply(
     ballot: u64,
     high: u64,
     low: u64,
-    row: u64,
+    row: Row,
     faults: &[u64],
 ) -> Answer
-    ensures { λ r. ⌜ (answer r ≡ replyOf (now (t .entry)) (told (source .0) ballot high low row (now (faults .entry))))
-        × (now (t .exit) ≡ tallyAfter (now (t .entry)) (told (source .0) ballot high low row (now (faults .entry)))) ⌝ }
+    ensures { λ r. ⌜ (answer r ≡ replyOf (now (t .entry)) (told (source .0) ballot high low (rowOf row) (now (faults .entry))))
+        × (now (t .exit) ≡ tallyAfter (now (t .entry)) (told (source .0) ballot high low (rowOf row) (now (faults .entry)))) ⌝ }
 {
     let r = reply(*t, source, ballot, high, low, row, faults);
     if is_taken(r.answer) {
@@ -163,21 +193,24 @@ fn fresh(n: usize, quorum: usize, d: usize, w: usize, ballot: u64, high: u64, lo
         value_low: low,
         heard: 0,
         committed: false,
-        rows: [0u64; 16],
+        rows: [0u64; 64],
     }
 }
 
-// The number that refuses a reply, or 0. The tally is tested like the opening's values, and its words too: it may come from anywhere.
+// The number that refuses a reply, or 0. The tally is tested like the opening's values, and its words too: it may come from anywhere. A part:
+// its 16 rows are lent apart, so that the test copies none.
 fn reply_refusal(
     t: Tally,
+    rows: &[u64],
     source: ReplicaId,
     ballot: u64,
     high: u64,
     low: u64,
-    row: u64,
+    row: Row,
     faults: &[u64],
 ) -> u8
-    ensures { λ r. ⌜ r ≡ replyRefusal t (told (source .0) ballot high low row (now (faults .entry))) ⌝ }
+    requires { ⌜ length (now rows) ≡ 64 ⌝ }
+    ensures { λ r. ⌜ r ≡ replyRefusal (updated t (t .heard) (t .committed) (now (rows .entry))) (told (source .0) ballot high low (rowOf row) (now (faults .entry))) ⌝ }
 {
     if !refusals::is_population(t.population) {
         return refusals::POPULATION;
@@ -194,8 +227,7 @@ fn reply_refusal(
     if !refusals::is_mask(t.population, t.heard) {
         return refusals::MASK;
     }
-    let rows = t.rows;
-    if !refusals::are_rows(t.width, &rows[..t.population]) {
+    if !are_own_rows(t.population, t.width, rows) {
         return refusals::MASK;
     }
     if !refusals::is_row(t.width, row) {
@@ -208,6 +240,15 @@ fn reply_refusal(
         return refusals::OTHER_VALUE;
     }
     0
+}
+
+// Whether the rows of the replicas below n have no shard at or above the width. A part: there are 16 rows, and n has been tested.
+fn are_own_rows(n: usize, w: usize, rows: &[u64]) -> bool
+    requires { ⌜ (n ≤ 16) × (length (now rows) ≡ 64) ⌝ }
+    ensures { λ r. ⌜ r ≡ areRows w (take (n * 4) (now (rows .entry))) ⌝ }
+{
+    let words = n * 4;
+    refusals::are_rows(w, &rows[..words])
 }
 
 // Whether a reply is about the tally's ballot and value id.
@@ -223,40 +264,21 @@ fn is_same_value(t: Tally, ballot: u64, high: u64, low: u64) -> bool
     t.value_low == low
 }
 
-// The tally with the source heard, and its row replaced or united. A part: the source has been tested.
-fn noted(t: Tally, source: ReplicaId, row: u64) -> Tally
-    requires { ⌜ source .0 < 16 ⌝ }
-    ensures { λ r. ⌜ r ≡ noted t (source .0) row ⌝ }
+// The rows with that of the source replaced or united. A part: there is one of the source.
+fn note(heard: u64, source: ReplicaId, row: Row, rows: &mut [u64])
+    requires { ⌜ source .0 * 4 + 4 ≤ length (now rows) ⌝ }
+    ensures { λ _. ⌜ now (rows .exit) ≡ withRow (now (rows .entry)) (source .0) (rowWith heard (rowIn (now (rows .entry)) (source .0)) (source .0) (rowOf row)) ⌝ }
 {
-    let mut u = t;
-    let s = source.0;
-    u.rows[s] = row_with(t.heard, t.rows[s], source, row);
-    u.heard = bitmap::with_replica(t.heard, source);
-    u
+    let k = source.0;
+    rows::put(row_with(heard, rows::row_in(rows, k), source, row), rows, k);
 }
 
 // A first reply replaces what stood there, a later one is united with it.
-fn row_with(heard: u64, held: u64, source: ReplicaId, row: u64) -> u64
-    ensures { λ r. ⌜ r ≡ rowWith heard held (source .0) row ⌝ }
+fn row_with(heard: u64, held: Row, source: ReplicaId, row: Row) -> Row
+    ensures { λ r. ⌜ rowOf r ≡ rowWith heard (rowOf held) (source .0) (rowOf row) ⌝ }
 {
     if bitmap::has_replica(heard, source) {
-        return bitmap::union(held, row);
+        return rows::union(held, row);
     }
     row
-}
-
-// Whether at least a quorum is heard and coverage holds. A part: the population has been tested.
-fn is_committing(t: Tally, faults: &[u64]) -> bool
-    requires { ⌜ t .population ≤ 16 ⌝ }
-    ensures { λ r. ⌜ r ≡ isCommitting t (now (faults .entry)) ⌝ }
-{
-    let rows = t.rows;
-    coverage::commits(
-        t.population,
-        t.quorum,
-        t.data_shards,
-        t.heard,
-        &rows,
-        faults,
-    )
 }

@@ -7,9 +7,10 @@ use native.Mathlib.Nat.{add-mul, mul-suc, mul-le-mul}
 use native.Mathlib.Omega.{arith}
 use lib.Ieee.{Float}
 use lib.ListN.{length, List·getD-eq-default}
-use Rattle.times.specs.Times.{never, timeOf, cell, timeIn}
+use Rattle.times.specs.Times.{mostTimes, never, timeOf, cell, timeIn}
 use Rattle.times.specs.TimeLaws.{place-row, place-load, place-replica}
 use Rattle.times.specs.declared.PeerRecord.{PeerRecord}
+use Rattle.refusals.specs.Limits.{mostShards}
 
 module _ (d i p k : ℕ) (load : k ≤ d) (place : i ≡ p * suc d + k) where
   -- such a replica is there
@@ -32,5 +33,5 @@ pub past-table : (d k p : ℕ) (times : List Float) → length times ≤ p → n
 past-table d k p times h = sym (List·getD-eq-default times never {n = p * suc d + k} (omega (arith, mul-suc p d)))
 
 -- and one within it has its times at a small place
-pub place-small : (p d L : ℕ) → p < L → L ≤ 1040 → d ≤ 64 → p * (d + 1) ≤ 67600
-place-small p d L h l e = let a : p ≤ 1040 = omega arith in let b : d + 1 ≤ 65 = omega arith in mul-le-mul a b
+pub place-small : (p d L : ℕ) → p < L → L ≤ mostTimes → d ≤ mostShards → p * (d + 1) ≤ 1048576
+place-small p d L h l e = let a : p ≤ 4096 = omega arith in let b : d + 1 ≤ 256 = omega arith in mul-le-mul a b

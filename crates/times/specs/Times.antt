@@ -8,11 +8,16 @@ use lib.IntN.{pos}
 use lib.Ieee.{Float, inf, fin, binary64, add, mul, div, ofInt}
 use lib.ListN.{getD}
 use Rattle.lists.specs.Below.{eachBelow}
+use Rattle.refusals.specs.Limits.{mostShards}
 use Rattle.floats.specs.Floats.{plusZero, isFinite}
 use Rattle.times.specs.declared.PerfModel.{PerfModel}
 use Rattle.times.specs.declared.Peer.{Peer}
 use Rattle.times.specs.declared.Peer.the-variants.{Silent, Heard}
 use Rattle.times.specs.declared.PeerRecord.{PeerRecord}
+
+-- the most times in a table: of 16 replicas at the loads 0 to the most shards
+abbrev pub mostTimes : ℕ
+mostTimes = 16 * suc mostShards
 
 -- a MiB, 1048576
 abbrev pub mebibyte : Float

@@ -3,7 +3,8 @@ ghost use mathlib.Core.Path.{_≡_};
 ghost use mathlib.Core.Bool.{false};
 ghost use Prim.Native.Nat.{_*_, _^_, _<_, _≤_, suc};
 ghost use lib.ListN.{length};
-ghost use Rattle.times.specs.Times.{InBounds, PeersInBounds, predictOf, settled, replyTime, timeAt, shardLength, timesOf, timeIn};
+ghost use Rattle.times.specs.Times.{mostTimes, InBounds, PeersInBounds, predictOf, settled, replyTime, timeAt, shardLength, timesOf, timeIn};
+ghost use Rattle.refusals.specs.Limits.{mostShards};
 use bitmap::ReplicaId;
 
 // The performance model of a peer: slope in ms a MiB, delay and jitter in ms.
@@ -72,7 +73,7 @@ fn settled(t: f64) -> f64
 
 // When a replica with k shards replies; our own time is +0, its record unread. A part: the numbers have been tested.
 fn time_at(own: bool, told: PeerRecord, k: usize, len: u64, penalty: f64) -> f64
-    requires { ⌜ (own ≡ false → InBounds told) × (k ≤ 64) × (len ≤ 2 ^ 30) ⌝ }
+    requires { ⌜ (own ≡ false → InBounds told) × (k ≤ mostShards) × (len ≤ 2 ^ 30) ⌝ }
     ensures { λ r. ⌜ r ≡ timeAt own told k len penalty ⌝ }
 {
     if own {
@@ -84,7 +85,7 @@ fn time_at(own: bool, told: PeerRecord, k: usize, len: u64, penalty: f64) -> f64
 
 // The length of a shard. A part: there is a data shard.
 pub fn shard_length(size: u64, d: usize) -> u64
-    requires { ⌜ (0 < d) × (d ≤ 64) × (size ≤ 2 ^ 30) ⌝ }
+    requires { ⌜ (0 < d) × (d ≤ mostShards) × (size ≤ 2 ^ 30) ⌝ }
     ensures { λ r. ⌜ r ≡ shardLength size d ⌝ }
 {
     let len = (size + (d as u64) - 1) / (d as u64);
@@ -101,7 +102,7 @@ pub fn fill_times(
     penalty: f64,
     times: &mut [f64],
 )
-    requires { ⌜ (d ≤ 64) × (len ≤ 2 ^ 30) × (n ≤ 16) × (length (now times) ≡ n * suc d) ⌝ }
+    requires { ⌜ (d ≤ mostShards) × (len ≤ 2 ^ 30) × (n ≤ 16) × (length (now times) ≡ n * suc d) ⌝ }
     requires { ⌜ PeersInBounds n (own .0) records ⌝ }
     ensures { λ _. ⌜ now (times .exit) ≡ timesOf n (own .0) d len records penalty ⌝ }
 {
@@ -123,7 +124,7 @@ pub fn fill_times(
 
 // The time of the replica p with k shards in the table; never, where it has none. A part: the table is one of at most 16 replicas.
 pub fn time_in(d: usize, times: &[f64], p: ReplicaId, k: usize) -> f64
-    requires { ⌜ (d ≤ 64) × (k ≤ 64) × (length (now times) ≤ 1040) ⌝ }
+    requires { ⌜ (d ≤ mostShards) × (k ≤ mostShards) × (length (now times) ≤ mostTimes) ⌝ }
     ensures { λ r. ⌜ r ≡ timeIn d (now (times .entry)) (p .0) k ⌝ }
 {
     if times.len() <= p.0 {

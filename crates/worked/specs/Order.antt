@@ -40,7 +40,7 @@ pub data Call : Type 0 where
   opening : (n quorum d w : ℕ) → Call
   reply : (t : Tally) (r : Reply) → Call
   pickInC : (n own quorum d : ℕ) (total : TotalShards) (size heard : ℕ) (models : List Float) (inflight faults : List ℕ) (rows : ℕ) → Call
-  policyInC : (n f own d w majority size : ℕ) (models : List Float) (inflight : List ℕ) (alive : ℕ) (initial table : List ℕ) (rows : ℕ)
+  policyInC : (n f own d w majority size : ℕ) (models : List Float) (inflight : List ℕ) (alive : ℕ) (initial table : List ℕ) (fits : Bool)
       → Call
 
 -- its cases, in the order of their tests
@@ -60,8 +60,8 @@ casesOf (opening n quorum d w) = openCases n quorum d w
 casesOf (reply t r) = replyCases t r
 casesOf (pickInC n own quorum d total size heard models inflight faults rows) =
     planCases n own quorum d total size heard models inflight faults rows
-casesOf (policyInC n f own d w majority size models inflight alive initial table rows) =
-    choiceCases n f own d w majority size models inflight alive initial table rows
+casesOf (policyInC n f own d w majority size models inflight alive initial table fits) =
+    choiceCases n f own d w majority size models inflight alive initial table fits
 
 -- no number of the list is below the one before it
 abbrev pub rising : List ℕ → Bool
@@ -84,4 +84,4 @@ cases-rise (gossip n own source d w available rows alive room) = refl
 cases-rise (opening n quorum d w) = refl
 cases-rise (reply t r) = refl
 cases-rise (pickInC n own quorum d total size heard models inflight faults rows) = refl
-cases-rise (policyInC n f own d w majority size models inflight alive initial table rows) = refl
+cases-rise (policyInC n f own d w majority size models inflight alive initial table fits) = refl

@@ -10,6 +10,7 @@ use lib.Ieee.{binary64, add, mul, div, ofInt, ofBits, toBits, le}
 use Rattle.lists.specs.Below.{someBelow, thoseBelow, runFrom, eachBelow, front}
 use Rattle.lists.specs.Sort.{lowerBy, upperBy}
 use Rattle.bitmap.specs.Mask.{withBit, allBelow, count, maskBelow, gather}
+use Rattle.rows.specs.Row.{value, wordsOf, rowIn, rowsIn, spelled}
 use Rattle.refusals.specs.Outcome.{Outcome, refused, accepted, andThen}
 use Rattle.refusals.specs.Limits.{peersFit, isPopulation, isShards, isQuorum, isFaultList}
 use Rattle.floats.specs.Floats.{plusZero, isProbability, isFinite, totalLe}
@@ -44,14 +45,14 @@ pub data Asked : Type 0 where
   plan : (n own f quorum d : ℕ) (total : TotalShards) (size : ℕ) (peers : List PeerRecord) → Asked
   gossip : (n w own source d : ℕ) (rows : List (List ℕ)) (having alive : List ℕ) → Asked
 
--- ---- what is told
+-- ---- what is told; a table of rows by its words
 pub data Told : Type 0 where
   refusal : (no : ℕ) → Told
-  laid : (w : ℕ) (rows : List ℕ) → Told
+  laid : (w : ℕ) (table : List ℕ) → Told
   masks : (faults : List ℕ) → Told
   covered : Bool → Told
   -- the time by its bits
-  planned : (time w : ℕ) (rows : List ℕ) → Told
+  planned : (time w : ℕ) (table : List ℕ) → Told
   noPlan : Told
   -- those asked, and the exclusion of each replica
   asking : (peers : ℕ) (exclusions : List ℕ) → Told
@@ -61,16 +62,19 @@ abbrev pub telling : {A : Type 0} → (A → Told) → Outcome A → Told
 telling tell (refused k) = refusal k
 telling tell (accepted a) = tell a
 
--- the mask of the members of a list, and one for each list
+-- the set of the members of a list, and the table of such rows, four words each
 abbrev pub setOf : List ℕ → ℕ
 setOf members = foldl withBit 0 members
 
-abbrev pub setsOf : List (List ℕ) → List ℕ
-setsOf rows = map setOf rows
+abbrev pub tableOf : List (List ℕ) → List ℕ
+tableOf rows = spelled (map setOf rows)
 
--- the lent words: k of them, each 99
+-- the lent words: k of them, each 99; and how many a table of n rows has
 abbrev pub lent : ℕ → List ℕ
 lent k = replicate k 99
+
+abbrev pub room : ℕ → ℕ
+room n = n * 4
 
 -- the fault list of a profile's text, as many words lent as there are sets of n replicas
 unfoldable pub faultsFor : ℕ → ℕ → String → Outcome (List ℕ)
@@ -82,21 +86,21 @@ faultsFor n f text =
 -- no plan, or a plan
 abbrev pub tellPlan : Option Plan → Told
 tellPlan none = noPlan
-tellPlan (some p) = planned (toBits binary64 (p .time)) (p .width) (p .rows)
+tellPlan (some p) = planned (toBits binary64 (p .time)) (p .width) (spelled (p .rows))
 
 -- by the entries' own definitions. Coverage and plans have the fault list of the tolerance and an empty profile. For coverage all are heard, and the width, which
--- the sheet leaves open, is 64
+-- the sheet leaves open, is the largest
 unfoldable pub answer : Asked → Told
 answer (layout d total loads) =
     let n = length loads in
-    telling (λ w. laid w (rowsWritten n d total loads (lent n))) (layoutRowsOf n d total loads n)
+    telling (λ w. laid w (rowsWritten n d total loads (lent (room n)))) (layoutRowsOf n d total loads (room n))
 answer (faultList n f profile) = telling masks (faultsFor n f profile)
-answer (coverage n f d rows) = telling covered (andThen (faultsFor n f "") (coversOf n d 64 (allBelow n) (setsOf rows)))
+answer (coverage n f d rows) = telling covered (andThen (faultsFor n f "") (coversOf n d 255 (allBelow n) (tableOf rows)))
 answer (plan n own f quorum d total size peers) =
-    telling tellPlan (andThen (faultsFor n f "") (λ faults. pickOf n own quorum d total size peers plusZero faults n))
+    telling tellPlan (andThen (faultsFor n f "") (λ faults. pickOf n own quorum d total size peers plusZero faults (room n)))
 answer (gossip n w own source d rows having alive) =
-    telling (λ peers. asking peers (exclusionsLeft n own source d w (setOf having) (setsOf rows) (setOf alive) (lent n)))
-    (gossipOf n own source d w (setOf having) (setsOf rows) (setOf alive) n)
+    telling (λ peers. asking peers (exclusionsLeft n own source d w (setOf having) (tableOf rows) (setOf alive) (lent (room n))))
+    (gossipOf n own source d w (setOf having) (tableOf rows) (setOf alive) (room n))
 
 -- ---- the table
 
@@ -116,10 +120,10 @@ unfolding line
 sheet =
     -- d 4, loads 4,2,2,1, ceiling 10: w 5; rows 0-3; 0,1; 2,3; 4
     line (layout 4 (AtMost 10) (4 ∷ 2 ∷ 2 ∷ 1 ∷ []))
-    (laid 5 (setsOf ((0 ∷ 1 ∷ 2 ∷ 3 ∷ []) ∷ (0 ∷ 1 ∷ []) ∷ (2 ∷ 3 ∷ []) ∷ (4 ∷ []) ∷ [])))
+    (laid 5 (tableOf ((0 ∷ 1 ∷ 2 ∷ 3 ∷ []) ∷ (0 ∷ 1 ∷ []) ∷ (2 ∷ 3 ∷ []) ∷ (4 ∷ []) ∷ [])))
     -- same, ceiling 4: w 4, last row 0
     ∷ line (layout 4 (AtMost 4) (4 ∷ 2 ∷ 2 ∷ 1 ∷ []))
-    (laid 4 (setsOf ((0 ∷ 1 ∷ 2 ∷ 3 ∷ []) ∷ (0 ∷ 1 ∷ []) ∷ (2 ∷ 3 ∷ []) ∷ (0 ∷ []) ∷ [])))
+    (laid 4 (tableOf ((0 ∷ 1 ∷ 2 ∷ 3 ∷ []) ∷ (0 ∷ 1 ∷ []) ∷ (2 ∷ 3 ∷ []) ∷ (0 ∷ []) ∷ [])))
     -- n 3, f 1: masks 1,2,4
     ∷ line (faultList 3 1 "") (masks (1 ∷ 2 ∷ 4 ∷ []))
     -- with domain 0,1: masks 3,4
@@ -136,20 +140,20 @@ sheet =
     ∷ line (coverage 3 1 2 ((0 ∷ []) ∷ (1 ∷ []) ∷ (0 ∷ []) ∷ [])) (covered false)
     -- n 3, own 0, f 1, quorum 2, d 2, ceiling 3, size 2 MiB, both models slope 1, delay 1, jitter 0, rest zero: time 2, w 2, rows 0,1; 0; 1
     ∷ line (plan 3 0 1 2 2 (AtMost 3) (2 * 2 ^ 20) (silent ∷ usual ∷ usual ∷ []))
-    (planned two 2 (setsOf ((0 ∷ 1 ∷ []) ∷ (0 ∷ []) ∷ (1 ∷ []) ∷ [])))
+    (planned two 2 (tableOf ((0 ∷ 1 ∷ []) ∷ (0 ∷ []) ∷ (1 ∷ []) ∷ [])))
     -- f 0: time 1, rows 0,1; none; none
     ∷ line (plan 3 0 0 2 2 (AtMost 3) (2 * 2 ^ 20) (silent ∷ usual ∷ usual ∷ []))
-    (planned one 2 (setsOf ((0 ∷ 1 ∷ []) ∷ [] ∷ [] ∷ [])))
+    (planned one 2 (tableOf ((0 ∷ 1 ∷ []) ∷ [] ∷ [] ∷ [])))
     -- both silent: none
     ∷ line (plan 3 0 1 2 2 (AtMost 3) (2 * 2 ^ 20) (silent ∷ silent ∷ silent ∷ [])) noPlan
     -- n 4, width 4, own 1, source 0, d 2, row of each its own number, having 0 and 1, all alive: peer 2 is asked, excluding 0,1
     ∷ line (gossip 4 4 1 0 2 ((0 ∷ []) ∷ (1 ∷ []) ∷ (2 ∷ []) ∷ (3 ∷ []) ∷ []) (0 ∷ 1 ∷ []) (0 ∷ 1 ∷ 2 ∷ 3 ∷ []))
-    (asking (setOf (2 ∷ [])) (setsOf ([] ∷ [] ∷ (0 ∷ 1 ∷ []) ∷ [] ∷ [])))
+    (asking (setOf (2 ∷ [])) (tableOf ([] ∷ [] ∷ (0 ∷ 1 ∷ []) ∷ [] ∷ [])))
     ∷ []
 
 -- ---- every row holds
 pub sheet-holds : map (λ (l : Line). answer (l .asked)) sheet ≡ map (λ (l : Line). l .told) sheet
-unfolding sheet answer faultsFor
+unfolding sheet answer faultsFor value wordsOf rowIn rowsIn spelled
     layoutRowsOf rowsWritten rowsRefusal isPopulation isShards widthOf rowsOf rowFor eachBelow gather
     profileOf mechanismsOf mechanismIn namedIn domainsIn domainIn probsIn decimalsOf decimalIn thresholdOf fitting nothing withDomain withWords
     readEach split trim trimStart trimEnd cutBy isText isSame isDigits spelt without wholeOf belowOf memberOf memberIn membersOf decimalOf writtenOf isNegative

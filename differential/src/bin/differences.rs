@@ -12,7 +12,7 @@ use differential::entries::policy::{self, Choice};
 use differential::entries::profile::{self, ProfileText};
 use differential::entries::unreliability::{self, Unreliability};
 use differential::entry::{Answer, Entry};
-use differential::parts::{Profile, Text, each_of, wide};
+use differential::parts::{Profile, Text, WIDEST, each_of, row_of, row_words, rows_of, shards_of};
 use oracle::api::{self, Fail};
 
 /// A listed difference: what it is, the smallest input, and what each side answers to it.
@@ -31,7 +31,7 @@ struct Run {
     port: String,
 }
 
-const ROWS: [Row; 12] = [
+const ROWS: [Row; 15] = [
     Row {
         what: "A fault tolerance above the population is refused.",
         input: "n 1, f 2, no profile",
@@ -55,10 +55,24 @@ const ROWS: [Row; 12] = [
     },
     Row {
         what: "The floor is worked out in whole numbers.",
-        input: "n 3, f 2, d 64, majority 1, nobody alive",
+        input: "n 1, f 0, d 128, majority 1, nobody alive",
         rust: "0",
-        port: "64",
+        port: "128",
         run: floor_in_a_byte,
+    },
+    Row {
+        what: "So is the count that the policy takes by that floor.",
+        input: "n 1, own 0, f 0, d 128, w 128, majority 1, nobody alive, balanced and not adaptive, no shard in the initial layout",
+        rust: "the initial layout",
+        port: "128 a replica",
+        run: policy_in_a_byte,
+    },
+    Row {
+        what: "Runs in a layout text are worked out in whole numbers.",
+        input: "n 2, d 129, total 254, `129`",
+        rust: "rows 0-128; none",
+        port: "rows 0-128; 0,1,127-253",
+        run: run_in_a_byte,
     },
     Row {
         what: "In the policy every NaN stands above infinity.",
@@ -96,11 +110,18 @@ const ROWS: [Row; 12] = [
         run: high_byte,
     },
     Row {
-        what: "A text longer than 4,096 bytes is refused.",
+        what: "A profile's text longer than 4,096 bytes is refused.",
         input: "n 1, the profile's text of 4,097 blanks",
         rust: "reads it",
         port: "refused 6",
         run: long_text,
+    },
+    Row {
+        what: "A layout text longer than 16,384 bytes is refused.",
+        input: "n 1, d 1, total 1, `1` with zeros before it, 16,385 bytes",
+        rust: "rows 0",
+        port: "refused 6",
+        run: long_layout_text,
     },
     Row {
         what: "A 65th domain is refused.",
@@ -112,7 +133,7 @@ const ROWS: [Row; 12] = [
     Row {
         what: "A total that is no multiple of the population is refused in a layout text.",
         input: "n 2, d 1, total 1, the empty text",
-        rust: "rows 0, 0",
+        rust: "rows none; none",
         port: "refused 14",
         run: no_multiple,
     },
@@ -149,6 +170,34 @@ fn said(answer: &Answer) -> String {
 
 fn quoted(text: &Text) -> String {
     format!("`{}`", text.0.escape_ascii())
+}
+
+/// A number with a comma before its last three digits.
+fn thousands(number: usize) -> String {
+    format!("{},{:03}", number / 1000, number % 1000)
+}
+
+/// The shards of each row as the site sheet has them: those that follow one another as a run, if
+/// they are at least three.
+fn rows(words: &[u64]) -> String {
+    let rows: Vec<String> = rows_of(words)
+        .iter()
+        .map(|row| {
+            let shards: Vec<u64> = shards_of(row).collect();
+            let runs = shards.chunk_by(|a, b| a + 1 == *b).flat_map(run);
+            let runs: Vec<String> = runs.collect();
+            runs.join(",")
+        })
+        .map(|row| if row.is_empty() { "none".into() } else { row })
+        .collect();
+    format!("rows {}", rows.join("; "))
+}
+
+fn run(shards: &[u64]) -> Vec<String> {
+    match shards {
+        [first, _, .., last] => vec![format!("{first}-{last}")],
+        few => few.iter().map(u64::to_string).collect(),
+    }
 }
 
 fn numbers(words: &[u64]) -> String {
@@ -210,15 +259,14 @@ fn rising_order() -> Option<Run> {
 }
 
 fn first_reply() -> Option<Run> {
-    (0..8u64).find_map(|row| {
-        let width = (64 - row.leading_zeros()).max(1) as u8;
+    (0..8).find_map(|shard| {
+        let (row, width) = (row_of([shard]), shard as u8 + 1);
         let mut rust = api::Tally::open(1, 0, 1, &[0], 1, 0, 0).ok()?;
-        let rust = rust.reply(0, 0, 0, width, wide(row)).ok()?;
+        let rust = rust.reply(0, 0, 0, width, row).ok()?;
         let mut port = callboard::Tally::open(1, 1, 1, 1, 0, 0, 0).ok()?;
         let Err(Refusal(number)) = port.accept_reply(0, 0, 0, 0, row, &[0]) else {
             return None;
         };
-        let shard = row.trailing_zeros();
         Some(Run {
             input: format!(
                 "a tally of n 1, quorum 1, d 1, w 1; the reply of replica 0 names shard {shard}"
@@ -238,57 +286,133 @@ fn floor_in_a_byte() -> Option<Run> {
         alive: k[4],
     };
     let fits = |i: &floor::Input| Floor::refusal(i).is_ok();
-    let inputs = all(&[3, 3, 64, 3, 8]).into_iter().map(case).filter(fits);
-    let (i, rust, port) = first::<Floor>(inputs.collect())?;
-    let alive = if i.alive == 0 {
-        "nobody".into()
-    } else {
-        format!("{:b}", i.alive)
-    };
+    let inputs = all(&[3, 3, WIDEST, 3, 8]).into_iter().map(case);
+    let (i, rust, port) = first::<Floor>(inputs.filter(fits).collect())?;
     Some(Run {
         input: format!(
-            "n {}, f {}, d {}, majority {}, {alive} alive",
-            i.n, i.f, i.d, i.majority
+            "n {}, f {}, d {}, majority {}, {} alive",
+            i.n,
+            i.f,
+            i.d,
+            i.majority,
+            alive(i.n, i.alive)
         ),
         rust: said(&rust),
         port: said(&port),
     })
 }
 
+/// Those of a mask, in words where there is one.
+fn alive(n: u64, mask: u64) -> String {
+    match (n, mask) {
+        (_, 0) => "nobody".into(),
+        (2, 3) => "both".into(),
+        _ => format!("{mask:b}"),
+    }
+}
+
+/// A choice of the policy.
+fn chosen(answer: &Answer) -> String {
+    match answer.fields[..] {
+        [0, _] => "the initial layout".into(),
+        [_, count] => format!("{count} a replica"),
+        _ => said(answer),
+    }
+}
+
+/// A balanced policy of n replicas with this model, whose initial layout has no shard.
+fn balanced(n: u64, d: u64, majority: u64, model: [f64; 3]) -> policy::Input {
+    let rows = n * (d - d / majority + 1);
+    policy::Input {
+        n,
+        d,
+        w: d,
+        majority,
+        models: vec![model; n as usize],
+        inflight: vec![0; n as usize],
+        init: vec![0; row_words(n)],
+        table: vec![0; row_words(rows)],
+        room: row_words(n),
+        ..policy::nan_below()
+    }
+}
+
+fn policy_in_a_byte() -> Option<Run> {
+    let case = |k: Vec<u64>| policy::Input {
+        f: k[1],
+        alive: k[4],
+        adaptive: k[5] == 1,
+        ..balanced(k[0] + 1, k[2] + 1, k[3] + 1, [0.0; 3])
+    };
+    let fits = |i: &policy::Input| Choice::refusal(i).is_ok();
+    let inputs = all(&[2, 2, WIDEST, 2, 4, 2]).into_iter().map(case);
+    let (i, rust, port) = first::<Choice>(inputs.filter(fits).collect())?;
+    Some(Run {
+        input: format!(
+            "n {}, own {}, f {}, d {}, w {}, majority {}, {} alive, balanced and {}adaptive, no \
+             shard in the initial layout",
+            i.n,
+            i.own,
+            i.f,
+            i.d,
+            i.w,
+            i.majority,
+            alive(i.n, i.alive),
+            if i.adaptive { "" } else { "not " }
+        ),
+        rust: chosen(&rust),
+        port: chosen(&port),
+    })
+}
+
+/// The first number to show it is d: a smaller one shows it with as many data shards.
+fn run_in_a_byte() -> Option<Run> {
+    let case = |k: Vec<u64>| init::Input {
+        n: k[0] + 1,
+        d: k[1] + 1,
+        total: k[2] + 1,
+        text: (k[1] + 1).to_string().as_str().into(),
+        room: row_words(k[0] + 1),
+    };
+    let fits = |i: &init::Input| LayoutText::refusal(i).is_ok();
+    let inputs = all(&[2, WIDEST, WIDEST]).into_iter().map(case);
+    let (i, rust, port) = first::<LayoutText>(inputs.filter(fits).collect())?;
+    Some(Run {
+        input: format!(
+            "n {}, d {}, total {}, {}",
+            i.n,
+            i.d,
+            i.total,
+            quoted(&i.text)
+        ),
+        rust: rows(&rust.lent),
+        port: rows(&port.lent),
+    })
+}
+
 fn nan_below() -> Option<Run> {
-    let case = |k: Vec<u64>| {
-        let (n, d, majority) = (k[0] + 1, k[3] + 1, k[4] + 1);
-        policy::Input {
-            n,
-            f: k[1],
-            own: k[2],
-            d,
-            w: d,
-            majority,
-            models: vec![[-f64::NAN, 0.0, 0.0]; n as usize],
-            inflight: vec![0; n as usize],
-            alive: k[5],
-            init: vec![1; n as usize],
-            table: vec![1; (n * (d - d / majority + 1)) as usize],
-            ..policy::nan_below()
-        }
+    let case = |k: Vec<u64>| policy::Input {
+        f: k[1],
+        own: k[2],
+        alive: k[5],
+        ..balanced(k[0] + 1, k[3] + 1, k[4] + 1, [-f64::NAN, 0.0, 0.0])
     };
     let fits = |i: &policy::Input| Choice::refusal(i).is_ok();
     let inputs = all(&[2, 2, 2, 2, 2, 4]).into_iter().map(case).filter(fits);
     let (i, rust, port) = first::<Choice>(inputs.collect())?;
-    let alive = if i.alive == 3 {
-        "both".into()
-    } else {
-        format!("{:b}", i.alive)
-    };
     Some(Run {
         input: format!(
-            "n {}, own {}, f {}, d {}, majority {}, {alive} alive, adaptive and balanced, the \
-             peer's slope a NaN with its sign set",
-            i.n, i.own, i.f, i.d, i.majority
+            "n {}, own {}, f {}, d {}, majority {}, {} alive, adaptive and balanced, the peer's \
+             slope a NaN with its sign set",
+            i.n,
+            i.own,
+            i.f,
+            i.d,
+            i.majority,
+            alive(i.n, i.alive)
         ),
-        rust: format!("{} a replica", rust.fields[1]),
-        port: format!("{} a replica", port.fields[1]),
+        rust: chosen(&rust),
+        port: chosen(&port),
     })
 }
 
@@ -350,12 +474,30 @@ fn high_byte() -> Option<Run> {
 fn long_text() -> Option<Run> {
     let blanks = (4090..=4100).map(|len| Text(vec![b' '; len]));
     first_text(blanks.collect(), |text| {
-        let len = text.0.len();
-        format!(
-            "the profile's text of {},{:03} blanks",
-            len / 1000,
-            len % 1000
-        )
+        format!("the profile's text of {} blanks", thousands(text.0.len()))
+    })
+}
+
+fn long_layout_text() -> Option<Run> {
+    let case = |len: usize| init::Input {
+        n: 1,
+        d: 1,
+        total: 1,
+        text: format!("{:0>len$}", 1).as_str().into(),
+        room: 4,
+    };
+    let inputs = (16_380..=16_390).map(case).collect();
+    let (i, rust, port) = first::<LayoutText>(inputs)?;
+    Some(Run {
+        input: format!(
+            "n {}, d {}, total {}, `1` with zeros before it, {} bytes",
+            i.n,
+            i.d,
+            i.total,
+            thousands(i.text.0.len())
+        ),
+        rust: rows(&rust.lent),
+        port: said(&port),
     })
 }
 
@@ -374,14 +516,14 @@ fn no_multiple() -> Option<Run> {
         d: k[1] + 1,
         total: k[2] + 1,
         text: "".into(),
-        room: k[0] as usize + 1,
+        room: row_words(k[0] + 1),
     };
     let fits = |i: &init::Input| i.d <= i.total;
     let inputs = all(&[3, 3, 3]).into_iter().map(case).filter(fits);
     let (i, rust, port) = first::<LayoutText>(inputs.collect())?;
     Some(Run {
         input: format!("n {}, d {}, total {}, the empty text", i.n, i.d, i.total),
-        rust: format!("rows {}", numbers(&rust.lent)),
+        rust: rows(&rust.lent),
         port: said(&port),
     })
 }

@@ -60,7 +60,7 @@ fn case<E: Entry>(input: &E::Input, report: &mut Report) -> Result<(), String> {
     let outcomes = checked
         .unwrap_or(Err("a panic outside the Rust".into()))
         .map_err(|why| format!("{}\n{why}", shown::<E>(input)))?;
-    report.add(&outcomes);
+    report.add::<E>(input, &outcomes);
     Ok(())
 }
 

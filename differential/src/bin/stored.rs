@@ -11,6 +11,7 @@
 //! A line has the parameters of the C function in their order, and then its answer.
 //!
 //! - A float is its 64 bits; in an answer every NaN is 7ff8000000000000.
+//! - A row is its four words, lowest shards first; a table of rows is the slice of all its words.
 //! - A slice that is read is its length and its elements, a text its length and its bytes.
 //! - A slice that is written is its length alone; before the call its word i is abad1dea00 + i.
 //! - A profile is domain_count, prob_count, runtime, threshold, then as many probabilities and
@@ -27,6 +28,10 @@
 //!   n rows.
 //!
 //! `policy` has the parameters of callboard_policy_rows.
+//!
+//! At least a quarter of the accepted inputs of an entry with rows are wider than 64. A file
+//! `base_init` beside these is written no more: it has the lines of `init` that were read while a
+//! row was one word, and they stay as they are.
 
 use std::error::Error;
 use std::path::Path;
@@ -56,6 +61,10 @@ const SMALL: u64 = 600;
 const NUMBERS: usize = 400;
 const BYTES: usize = 880_000;
 const BLOCK: usize = 65_536;
+/// The bytes of a line from which on it is long, and how rare that is, or there would be too few
+/// lines.
+const LONG: usize = 800;
+const RARE: u64 = 8;
 
 /// A file of stored answers.
 #[derive(Default)]
@@ -66,8 +75,9 @@ struct File {
 }
 
 impl File {
-    /// Adds a case, if it fits on a line and is no listed difference.
-    fn add<E: Entry>(&mut self, input: &E::Input) -> Result<(), String> {
+    /// Adds a case, if it fits on a line and is no listed difference. Of long lines one is added
+    /// where the lines so far are a multiple of `rare`.
+    fn add<E: Entry>(&mut self, input: &E::Input, rare: u64) -> Result<(), String> {
         let (answer, outcomes) =
             expected::<E>(input).map_err(|why| format!("{}: {why}\n{input:?}", E::NAME))?;
         let line = E::line(input, &answer);
@@ -76,12 +86,11 @@ impl File {
             return Ok(());
         }
         let text = format!("{line}\n");
-        // Long lines are rare, or there would be too few.
-        if text.len() > 800 && !self.lines.is_multiple_of(8) {
+        if text.len() > LONG && !self.lines.is_multiple_of(rare) {
             return Ok(());
         }
         self.put(&text);
-        self.report.add(&outcomes);
+        self.report.add::<E>(input, &outcomes);
         Ok(())
     }
 
@@ -110,24 +119,28 @@ impl File {
 fn store<E: Entry>(dir: &Path, seed: u64) -> Result<(), Box<dyn Error>> {
     let mut file = File::default();
     for input in E::fixed() {
-        file.add::<E>(&input)?;
+        file.add::<E>(&input, 1)?;
     }
     let (mut all, mut at, mut result) = (0, 0, Ok(()));
     E::small(&mut |_| all += 1);
     E::small(&mut |input| {
         if at % (all / SMALL + 1) == 0 && result.is_ok() {
-            result = file.add::<E>(&input);
+            result = file.add::<E>(&input, RARE);
         }
         at += 1;
     });
     result?;
     let mut rng = Rng::new(seed);
     while file.lines < LINES && file.text.len() < BYTES {
-        file.add::<E>(&E::random(&mut rng))?;
+        file.add::<E>(&E::random(&mut rng), RARE)?;
     }
     let missing = file.report.missing::<E>(false);
     if !missing.is_empty() || file.lines < 2000 {
         return Err(format!("{}: {} lines, without {missing:?}", E::NAME, file.lines).into());
+    }
+    let [narrow, wide] = file.report.narrow_and_wide();
+    if 3 * wide < narrow {
+        return Err(format!("{}: {narrow} narrow lines, {wide} wide ones", E::NAME).into());
     }
     println!(
         "{}: {} lines, {} bytes",

@@ -5,7 +5,7 @@ use oracle::api;
 use crate::document::{self, Checked};
 use crate::entry::{Answer, Asked, Entry, Listed, Told};
 use crate::line::Line;
-use crate::parts::{above, all_below, byte, low, population, set};
+use crate::parts::{WIDEST, above, all_below, byte, low, population, set};
 use crate::rng::Rng;
 
 pub struct Floor;
@@ -35,13 +35,19 @@ pub fn in_a_byte(f: u64, d: u64, majority: u64, alive: u64) -> u64 {
     (product(f, d, majority, alive) % 256).min(d)
 }
 
+/// Whether the product is above a byte.
+#[must_use]
+pub fn overflows(f: u64, d: u64, majority: u64, alive: u64) -> bool {
+    product(f, d, majority, alive) > 255
+}
+
 fn product(f: u64, d: u64, majority: u64, alive: u64) -> u64 {
     (majority + f + 1).saturating_sub(alive.count_ones().into()) * (d / majority)
 }
 
-/// A multiple of the majority, at most 64.
+/// A multiple of the majority, at most 255.
 pub fn multiple(rng: &mut Rng, majority: u64) -> u64 {
-    majority * rng.within(1..=64 / majority)
+    majority * rng.within(1..=WIDEST / majority)
 }
 
 impl Entry for Floor {
@@ -59,7 +65,7 @@ impl Entry for Floor {
     /// Everything that is accepted, those alive being the first ones.
     fn small(each: &mut dyn FnMut(Input)) {
         for (n, majority) in (1..=16).flat_map(|n| (1..=n).map(move |m| (n, m))) {
-            for d in (majority..=64).step_by(majority as usize) {
+            for d in (majority..=WIDEST).step_by(majority as usize) {
                 for (f, alive) in (0..n).flat_map(|f| (0..=n).map(move |k| (f, low(k)))) {
                     each(Input {
                         n,
@@ -87,7 +93,7 @@ impl Entry for Floor {
             match rng.below(5) {
                 0 => input.n = rng.around(16),
                 1 => input.f = rng.around(input.n),
-                2 => input.d = rng.around(64),
+                2 => input.d = rng.around(WIDEST),
                 3 => input.majority = rng.around(input.n),
                 _ => input.alive = above(rng, input.n),
             }
@@ -95,8 +101,20 @@ impl Entry for Floor {
         input
     }
 
+    fn width(i: &Input) -> Option<u64> {
+        Some(i.d)
+    }
+
     fn refusal(i: &Input) -> Checked {
         document::floor(i)
+    }
+
+    fn overflow(i: &Input) -> Option<Listed> {
+        overflows(i.f, i.d, i.majority, i.alive).then(|| Listed {
+            name: IN_A_BYTE,
+            rust: Answer::fields(vec![in_a_byte(i.f, i.d, i.majority, i.alive)]),
+            port: Answer::fields(vec![whole(i.f, i.d, i.majority, i.alive)]),
+        })
     }
 
     fn rust(i: &Input) -> Asked {
@@ -111,15 +129,7 @@ impl Entry for Floor {
                 k if k == d => "d",
                 _ => "between",
             };
-            let mut told = Told::new(Answer::fields(vec![count.into()]), class);
-            let rust = in_a_byte(i.f, i.d, i.majority, i.alive);
-            let port = whole(i.f, i.d, i.majority, i.alive);
-            told.listed = (rust != port).then(|| Listed {
-                name: IN_A_BYTE,
-                rust: Answer::fields(vec![rust]),
-                port: Answer::fields(vec![port]),
-            });
-            told
+            Told::new(Answer::fields(vec![count.into()]), class)
         }))
     }
 

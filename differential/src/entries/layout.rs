@@ -1,13 +1,16 @@
 //! `layout_rows` and `layout_commits`: the rows of given loads, and whether they commit.
 
+#[cfg(feature = "port")]
+use callboard::raw;
 use oracle::api;
 
 use crate::document::{self, Checked};
 use crate::entry::{Answer, Asked, Entry, Told};
 use crate::line::Line;
 use crate::parts::{
-    Total, above, all_below, byte, damage_faults, damage_table, each_list, each_of, fault_lists,
-    faults, has, hex, junk, list, population, row_words, set, shards, total, wrong_room,
+    EDGES, Total, WIDEST, above, all_below, byte, damage_faults, damage_table, each_list, each_of,
+    fault_lists, faults, has, hex, junk, list, population, row_words, set, shards, total,
+    wrong_room,
 };
 use crate::rng::Rng;
 
@@ -20,6 +23,7 @@ pub struct RowsInput {
     pub d: u64,
     pub total: Total,
     pub loads: Vec<u64>,
+    /// The words that are lent for the rows.
     pub room: usize,
 }
 
@@ -56,7 +60,7 @@ impl RowsInput {
         match rng.below(5) {
             0 => self.n = rng.around(16),
             1 => self.d = rng.around(self.total.width),
-            2 => self.total.width = rng.around(64),
+            2 => self.total.width = rng.around(WIDEST),
             3 => damage_table(rng, &mut self.loads, 1),
             _ => self.room = wrong_room(rng, self.n),
         }
@@ -79,25 +83,22 @@ impl Entry for LayoutRows {
                 width,
             },
             loads: vec![4, 2, 2, 1],
-            room: 4,
+            room: 16,
         };
-        vec![sheet(10), sheet(4), sheet(64), sheet(65)]
+        let mut fixed = vec![sheet(10), sheet(4), sheet(WIDEST), sheet(WIDEST + 1)];
+        fixed.extend((0..=24).map(|room| RowsInput { room, ..sheet(10) }));
+        fixed
     }
 
-    /// Up to 4 replicas, 4 data shards, a width of 6, and loads to d + 1.
+    /// Up to 4 replicas, 4 data shards, a width of 6, and loads to d + 1; up to 4 replicas and data
+    /// shards at an edge.
     fn small(each: &mut dyn FnMut(RowsInput)) {
         for (n, d, width) in sizes(4, 4, 6) {
-            each_list(n as usize, d + 2, &mut |loads| {
-                for ceiling in [false, true] {
-                    each(RowsInput {
-                        n,
-                        d,
-                        total: Total { ceiling, width },
-                        loads: loads.to_vec(),
-                        room: n as usize,
-                    });
-                }
-            });
+            let loads: Vec<u64> = (0..=d + 1).collect();
+            small_of(n, d, width, &loads, each);
+        }
+        for (n, d, width) in edges(4) {
+            small_of(n, d, width, &edge_loads(d), each);
         }
     }
 
@@ -109,12 +110,16 @@ impl Entry for LayoutRows {
             d,
             total: total(rng, w),
             loads: random_loads(rng, n, d),
-            room: n as usize,
+            room: row_words(n),
         };
         while rng.once_in(4) {
             input.damage(rng);
         }
         input
+    }
+
+    fn width(i: &RowsInput) -> Option<u64> {
+        Some(i.total.width)
     }
 
     fn refusal(i: &RowsInput) -> Checked {
@@ -133,15 +138,27 @@ impl Entry for LayoutRows {
             } else {
                 "at an exact width"
             };
-            Told::new(Answer::lent(vec![w.into()], row_words(&rows)), class)
+            Told::new(Answer::lent(vec![w.into()], rows.concat()), class)
         }))
     }
 
     #[cfg(feature = "port")]
     fn port(i: &RowsInput) -> Answer {
         let mut rows = junk(i.room);
-        let called = callboard::layout_rows(i.n, i.d, i.total.port(), &i.loads, &mut rows);
-        Answer::of(called, rows, |w| [w])
+        // SAFETY: the tables are lent for the call, with their lengths, `rows` alone.
+        let answer = unsafe {
+            raw::callboard_layout_rows(
+                i.n,
+                i.d,
+                i.total.ceiling.into(),
+                i.total.width,
+                i.loads.as_ptr(),
+                i.loads.len(),
+                rows.as_mut_ptr(),
+                rows.len(),
+            )
+        };
+        Answer::given(answer.refusal, [answer.value], rows)
     }
 
     fn lent(i: &RowsInput) -> Option<Vec<u64>> {
@@ -159,9 +176,65 @@ impl Entry for LayoutRows {
     }
 }
 
+/// Every list of n of these loads, under a ceiling and at the exact width.
+fn small_of(n: u64, d: u64, width: u64, from: &[u64], each: &mut dyn FnMut(RowsInput)) {
+    each_list(n as usize, from.len() as u64, &mut |chosen| {
+        for ceiling in [false, true] {
+            each(RowsInput {
+                n,
+                d,
+                total: Total { ceiling, width },
+                loads: chosen.iter().map(|&k| from[k as usize]).collect(),
+                room: row_words(n),
+            });
+        }
+    });
+}
+
+/// Every population up to this, with data shards at an edge, and d, one more or the most as width.
+fn edges(n: u64) -> impl Iterator<Item = (u64, u64, u64)> {
+    let sizes = EDGES
+        .into_iter()
+        .flat_map(|d| [(d, d), (d, d + 1), (d, WIDEST)]);
+    let sizes = sizes.filter(|&(_, w)| w <= WIDEST);
+    sizes.flat_map(move |(d, w)| (1..=n).map(move |n| (n, d, w)))
+}
+
+fn edge_loads(d: u64) -> Vec<u64> {
+    vec![0, 1, d / 2, d - 1, d]
+}
+
 /// Every population, number of data shards and width up to these.
 fn sizes(n: u64, d: u64, w: u64) -> impl Iterator<Item = (u64, u64, u64)> {
     (1..=n).flat_map(move |n| (1..=d).flat_map(move |d| (d..=w).map(move |w| (n, d, w))))
+}
+
+/// As `small_of`, with every quorum and every set that answers, under each list of at most so many
+/// sets.
+fn small_commits(
+    n: u64,
+    d: u64,
+    width: u64,
+    loads: &[u64],
+    sets: u32,
+    each: &mut dyn FnMut(CommitsInput),
+) {
+    for faults in fault_lists(n, sets) {
+        small_of(n, d, width, loads, &mut |rows| {
+            each_of(&[n, 1 << n], &mut |k| {
+                each(CommitsInput {
+                    n,
+                    quorum: k[0] + 1,
+                    d,
+                    total: rows.total,
+                    answered: k[1],
+                    loads: rows.loads.clone(),
+                    faults: faults.clone(),
+                    room: rows.room,
+                });
+            });
+        });
+    }
 }
 
 impl CommitsInput {
@@ -169,7 +242,7 @@ impl CommitsInput {
         match rng.below(8) {
             0 => self.n = rng.around(16),
             1 => self.d = rng.around(self.total.width),
-            2 => self.total.width = rng.around(64),
+            2 => self.total.width = rng.around(WIDEST),
             3 => self.quorum = rng.around(self.n),
             4 => self.answered = above(rng, self.n),
             5 => damage_table(rng, &mut self.loads, 1),
@@ -196,31 +269,31 @@ impl Entry for LayoutCommits {
     const FIELDS: usize = 2;
 
     fn fixed() -> Vec<CommitsInput> {
-        vec![]
+        let lent = |room| CommitsInput {
+            n: 4,
+            quorum: 3,
+            d: 4,
+            total: Total {
+                ceiling: true,
+                width: 10,
+            },
+            answered: 15,
+            loads: vec![4, 2, 2, 1],
+            faults: vec![1],
+            room,
+        };
+        (0..=24).map(lent).collect()
     }
 
-    /// Up to 3 replicas, 2 data shards and a width of 3, under every list of at most 2 sets.
+    /// Up to 3 replicas, 2 data shards and a width of 3, under every list of at most 2 sets; up to 3
+    /// replicas and data shards at an edge, under every list of one set.
     fn small(each: &mut dyn FnMut(CommitsInput)) {
         for (n, d, width) in sizes(3, 2, 3) {
-            for faults in fault_lists(n, 2) {
-                each_list(n as usize, d + 1, &mut |loads| {
-                    each_of(&[n, 2, 1 << n], &mut |k| {
-                        each(CommitsInput {
-                            n,
-                            quorum: k[0] + 1,
-                            d,
-                            total: Total {
-                                ceiling: k[1] == 1,
-                                width,
-                            },
-                            answered: k[2],
-                            loads: loads.to_vec(),
-                            faults: faults.clone(),
-                            room: n as usize,
-                        });
-                    });
-                });
-            }
+            let loads: Vec<u64> = (0..=d).collect();
+            small_commits(n, d, width, &loads, 2, each);
+        }
+        for (n, d, width) in edges(3) {
+            small_commits(n, d, width, &edge_loads(d), 1, each);
         }
     }
 
@@ -235,12 +308,16 @@ impl Entry for LayoutCommits {
             answered: set(rng, n) | set(rng, n),
             loads: random_loads(rng, n, d),
             faults: faults(rng, n),
-            room: n as usize,
+            room: row_words(n),
         };
         while rng.once_in(3) {
             input.damage(rng);
         }
         input
+    }
+
+    fn width(i: &CommitsInput) -> Option<u64> {
+        Some(i.total.width)
     }
 
     fn refusal(i: &CommitsInput) -> Checked {
@@ -254,24 +331,31 @@ impl Entry for LayoutCommits {
         Some(asked.map(|(w, rows, yes)| {
             let class = if yes { "commits" } else { "does not commit" };
             let fields = vec![w.into(), yes.into()];
-            Told::new(Answer::lent(fields, row_words(&rows)), class)
+            Told::new(Answer::lent(fields, rows.concat()), class)
         }))
     }
 
     #[cfg(feature = "port")]
     fn port(i: &CommitsInput) -> Answer {
         let mut rows = junk(i.room);
-        let called = callboard::layout_commits(
-            i.n,
-            i.quorum,
-            i.d,
-            i.total.port(),
-            i.answered,
-            &i.loads,
-            &i.faults,
-            &mut rows,
-        );
-        Answer::of(called, rows, |l| [l.width, l.commits.into()])
+        // SAFETY: the tables are lent for the call, with their lengths, `rows` alone.
+        let layout = unsafe {
+            raw::callboard_layout_commits(
+                i.n,
+                i.quorum,
+                i.d,
+                i.total.ceiling.into(),
+                i.total.width,
+                i.answered,
+                i.loads.as_ptr(),
+                i.loads.len(),
+                i.faults.as_ptr(),
+                i.faults.len(),
+                rows.as_mut_ptr(),
+                rows.len(),
+            )
+        };
+        Answer::given(layout.refusal, [layout.width, layout.commits], rows)
     }
 
     fn lent(i: &CommitsInput) -> Option<Vec<u64>> {

@@ -1,13 +1,15 @@
 //! `pick_assignment`: the plan that is predicted to commit the soonest.
 
+#[cfg(feature = "port")]
+use callboard::raw;
 use oracle::api;
 
 use crate::document::{self, Checked};
 use crate::entry::{Answer, Asked, Entry, Told};
 use crate::line::Line;
 use crate::parts::{
-    Total, above, all_below, bits, byte, damage_faults, damage_table, each_list, each_of,
-    fault_lists, faults, has, hex, junk, list, population, row_words, set, shards, total,
+    EDGES, Total, WIDEST, above, all_below, bits, byte, damage_faults, damage_table, each_list,
+    each_of, fault_lists, faults, has, hex, junk, list, population, row_words, set, total, width,
     wrong_room,
 };
 use crate::rng::Rng;
@@ -28,6 +30,7 @@ pub struct Input {
     pub models: Vec<[f64; 4]>,
     pub inflight: Vec<u64>,
     pub faults: Vec<u64>,
+    /// The words that are lent for the rows.
     pub room: usize,
 }
 
@@ -38,6 +41,18 @@ pub fn bytes(rng: &mut Rng, limit: u64) -> u64 {
         1 => rng.below(64),
         2 => limit - rng.below(2),
         _ => rng.below(1 << 24),
+    }
+}
+
+/// Data shards, mostly few: the Rust tries a layout at each of up to n times d times, and takes a
+/// shard off a load at a time.
+fn data_shards(rng: &mut Rng, n: u64) -> u64 {
+    let (few, share) = if n > 9 { (8, 100) } else { (16, 4 * n) };
+    match rng.below(share) {
+        0 => rng.pick(&EDGES),
+        1 => rng.within(1..=WIDEST),
+        2 => rng.within(1..=64),
+        _ => rng.within(1..=few),
     }
 }
 
@@ -73,7 +88,7 @@ impl Input {
             1 => self.own = rng.around(self.n),
             2 => self.quorum = rng.around(self.n),
             3 => self.d = rng.around(self.total.width),
-            4 => self.total.width = rng.around(64),
+            4 => self.total.width = rng.around(WIDEST),
             5 => self.size = rng.around(1 << 30),
             6 if !self.inflight.is_empty() => {
                 let at = rng.index(self.inflight.len());
@@ -134,7 +149,7 @@ impl Entry for Plan {
             models: vec![[1.0, 1.0, 0.0, 0.0]; 3],
             inflight: vec![0; 3],
             faults: faults.to_vec(),
-            room: 3,
+            room: 12,
         };
         // Peers that reply at -0, before our own +0.
         let minus_0 = Input {
@@ -142,12 +157,17 @@ impl Entry for Plan {
             penalty: 1.0,
             ..sheet(7, &[1, 2, 4])
         };
-        vec![
+        let mut fixed = vec![
             sheet(7, &[1, 2, 4]),
             sheet(7, &[0]),
             sheet(1, &[1, 2, 4]),
             minus_0,
-        ]
+        ];
+        fixed.extend((0..=20).map(|room| Input {
+            room,
+            ..sheet(7, &[0])
+        }));
+        fixed
     }
 
     /// Up to 3 replicas and 2 data shards; peers silent, or with slope and delay 0 or 1.
@@ -165,11 +185,8 @@ impl Entry for Plan {
 
     fn random(rng: &mut Rng) -> Input {
         let n = population(rng);
-        let (d, w) = match (n > 9, rng.below(16)) {
-            (false, _) => shards(rng),
-            (true, 0) => (rng.within(1..=64), 64),
-            _ => (rng.within(1..=8), rng.within(8..=64)),
-        };
+        let d = data_shards(rng, n);
+        let w = width(rng, d);
         let floats = Floats::random(rng);
         let mut input = Input {
             n,
@@ -183,12 +200,16 @@ impl Entry for Plan {
             models: (0..n).map(|_| floats.draw(rng)).collect(),
             inflight: (0..n).map(|_| bytes(rng, 1 << 40)).collect(),
             faults: faults(rng, n),
-            room: n as usize,
+            room: row_words(n),
         };
         while rng.once_in(4) {
             input.damage(rng);
         }
         input
+    }
+
+    fn width(i: &Input) -> Option<u64> {
+        Some(i.total.width)
     }
 
     fn refusal(i: &Input) -> Checked {
@@ -198,7 +219,7 @@ impl Entry for Plan {
     fn rust(i: &Input) -> Asked {
         let (own, n, quorum) = (byte(i.own)?, byte(i.n)?, byte(i.quorum)?);
         let (d, total, peers) = (byte(i.d)?, i.total.rust()?, i.peers()?);
-        if n > 16 || d > 64 {
+        if n > 16 {
             return None; // too slow
         }
         let (penalty, size) = (i.penalty, i.size as usize);
@@ -208,7 +229,7 @@ impl Entry for Plan {
                 let fields = vec![1, p.w.into(), bits(p.time)];
                 let minus_0 = p.time.to_bits() == (-0.0f64).to_bits();
                 let class = if minus_0 { "a plan at -0" } else { "a plan" };
-                Told::new(Answer::lent(fields, row_words(&p.rows)), class)
+                Told::new(Answer::lent(fields, p.rows.concat()), class)
             }
             None => Told::new(Answer::lent(vec![0; 3], junk(i.room)), "none"),
         }))
@@ -217,25 +238,31 @@ impl Entry for Plan {
     #[cfg(feature = "port")]
     fn port(i: &Input) -> Answer {
         let mut rows = junk(i.room);
-        let called = callboard::pick_assignment(
-            i.n,
-            i.own,
-            i.quorum,
-            i.d,
-            i.total.port(),
-            i.size,
-            i.penalty,
-            i.heard,
-            &i.models,
-            &i.inflight,
-            &i.faults,
-            &mut rows,
-        );
-        let fields = |plan: Option<callboard::Plan>| match plan {
-            Some(p) => [1, p.width, bits(p.time)],
-            None => [0; 3],
+        let floats = i.models.as_flattened();
+        // SAFETY: the tables are lent for the call, with their lengths, `rows` alone.
+        let plan = unsafe {
+            raw::callboard_pick_assignment(
+                i.n,
+                i.own,
+                i.quorum,
+                i.d,
+                i.total.ceiling.into(),
+                i.total.width,
+                i.size,
+                i.penalty,
+                i.heard,
+                floats.as_ptr(),
+                floats.len(),
+                i.inflight.as_ptr(),
+                i.inflight.len(),
+                i.faults.as_ptr(),
+                i.faults.len(),
+                rows.as_mut_ptr(),
+                rows.len(),
+            )
         };
-        Answer::of(called, rows, fields)
+        let fields = [plan.found, plan.width, bits(plan.time)];
+        Answer::given(plan.refusal, fields, rows)
     }
 
     fn lent(i: &Input) -> Option<Vec<u64>> {
@@ -284,6 +311,6 @@ fn small_of(n: u64, faults: &[u64], kinds: &[u64], k: &[u64]) -> Input {
         models: kinds.iter().map(model).collect(),
         inflight: vec![0; n as usize],
         faults: faults.to_vec(),
-        room: n as usize,
+        room: row_words(n),
     }
 }

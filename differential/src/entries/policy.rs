@@ -2,6 +2,8 @@
 
 use std::cmp::Ordering;
 
+#[cfg(feature = "port")]
+use callboard::raw;
 use oracle::api::{self, Fail};
 
 use super::floor::{self, IN_A_BYTE, multiple};
@@ -10,8 +12,9 @@ use crate::document::{self, Checked};
 use crate::entry::{Answer, Asked, Entry, Listed, Told};
 use crate::line::Line;
 use crate::parts::{
-    above, all_below, damage_rows, damage_table, each_of, junk, low, population, row_words, set,
-    wide, wrong_room,
+    Row, WIDEST, above, all_below, damage_rows, damage_table, each_of, junk, low, population,
+    row_below, row_of, row_words, rows, rows_below, rows_of, set, shard_count, shards_of, table_at,
+    tables, width, wrong_room,
 };
 use crate::rng::Rng;
 
@@ -35,8 +38,10 @@ pub struct Input {
     pub models: Vec<[f64; 3]>,
     pub inflight: Vec<u64>,
     pub alive: u64,
+    /// Four words a row, here and in the table.
     pub init: Vec<u64>,
     pub table: Vec<u64>,
+    /// The words that are lent for the rows.
     pub room: usize,
 }
 
@@ -59,7 +64,7 @@ impl Input {
             1 => self.f = rng.around(self.n),
             2 => self.own = rng.around(self.n),
             3 => self.d = rng.around(self.w),
-            4 => self.w = rng.around(64),
+            4 => self.w = rng.around(WIDEST),
             5 => self.majority = rng.around(self.n),
             6 => self.majority = rng.within(1..=self.n.clamp(1, 16)),
             7 => self.size = rng.around(1 << 30),
@@ -86,7 +91,7 @@ impl Input {
     /// The rows of a count that the table has.
     fn rows(&self, count: u64) -> &[u64] {
         let from = (count - self.d / self.majority) * self.n;
-        &self.table[from as usize..][..self.n as usize]
+        &self.table[row_words(from)..][..row_words(self.n)]
     }
 
     /// "load (size / d, rounded down, + 1) × those shards"
@@ -117,7 +122,7 @@ impl Input {
             let first_least = steps.min_by(|a, b| order(&a.1, &b.1));
             (first_least.expect("a majority is at least 1").0 + 1) * (self.d / self.majority)
         } else {
-            self.init[0].count_ones().into()
+            shard_count(&rows_of(&self.init)[0])
         };
         let count = best.max(floor);
         let has = !self.table.is_empty() && (self.d / self.majority..=self.d).contains(&count);
@@ -136,22 +141,28 @@ impl Input {
         self.balanced && self.adaptive && (0..self.majority).any(at)
     }
 
-    /// A difference from the Rust: its name, the Rust's choice and the port's. `told` is what the
-    /// Rust chose.
+    /// The Rust's choice and the port's, by the document.
+    fn choices(&self) -> [Option<u64>; 2] {
+        let (f, d, majority, alive) = (self.f, self.d, self.majority, self.alive);
+        [
+            self.chosen(f64::total_cmp, floor::in_a_byte(f, d, majority, alive)),
+            self.chosen(nans_above, floor::whole(f, d, majority, alive)),
+        ]
+    }
+
+    /// A difference from the Rust that comes of NaNs: its name, the Rust's choice and the port's.
+    /// `told` is what the Rust chose.
     fn listed(&self, told: Option<u64>) -> Option<(&'static str, Option<u64>, Option<u64>)> {
-        let floors = [floor::in_a_byte, floor::whole]
-            .map(|floor| floor(self.f, self.d, self.majority, self.alive));
-        let port = self.chosen(nans_above, floors[1]);
+        let [rust, port] = self.choices();
         if self.is_open() {
             return Some((TWO_NANS, told, port));
         }
-        let rust = self.chosen(f64::total_cmp, floors[0]);
-        let name = if floors[0] == floors[1] {
-            NANS
-        } else {
-            IN_A_BYTE
-        };
-        (rust != port).then_some((name, rust, port))
+        (rust != port && !self.overflows()).then_some((NANS, rust, port))
+    }
+
+    /// The floor's product is above a byte; without balance there is no floor.
+    fn overflows(&self) -> bool {
+        self.balanced && floor::overflows(self.f, self.d, self.majority, self.alive)
     }
 
     /// Whether the Rust can hold the tables.
@@ -160,12 +171,12 @@ impl Input {
         bytes.iter().all(|&number| number < 256)
             && self.models.len() as u64 == self.n
             && self.inflight.len() as u64 == self.n
-            && self.init.len() as u64 == self.n
+            && self.init.len() == row_words(self.n)
             && self.majority > 0
             && self.n > 0
-            && (self.table.is_empty() || self.table.len() as u64 == self.n * self.counts())
-            && all_below(&self.init, self.w)
-            && all_below(&self.table, self.w)
+            && (self.table.is_empty() || self.table.len() == row_words(self.n * self.counts()))
+            && rows_below(&self.init, self.w)
+            && rows_below(&self.table, self.w)
             && all_below(&[self.alive], self.n)
     }
 
@@ -175,13 +186,12 @@ impl Input {
     }
 
     /// Asks the Rust with this table in place of the lent one. A part: the tables are right.
-    fn ask(&self, table: &[(u8, Vec<api::Row>)]) -> Result<Vec<api::Row>, Fail> {
-        let init: Vec<_> = self.init.iter().map(|&row| wide(row)).collect();
+    fn ask(&self, table: &[(u8, Vec<Row>)]) -> Result<Vec<Row>, Fail> {
         api::policy(
             self.adaptive,
             self.balanced,
             self.w as u8,
-            &init,
+            rows_of(&self.init),
             table,
             self.d as u8,
             self.majority as u8,
@@ -196,7 +206,7 @@ impl Input {
     }
 
     /// The counts of the table, each with what `rows` gives for it.
-    fn tabled(&self, rows: impl Fn(u64) -> Vec<api::Row>) -> Vec<(u8, Vec<api::Row>)> {
+    fn tabled(&self, rows: impl Fn(u64) -> Vec<Row>) -> Vec<(u8, Vec<Row>)> {
         if self.table.is_empty() {
             return vec![];
         }
@@ -205,22 +215,22 @@ impl Input {
     }
 
     /// The Rust's choice. It gives rows alone, so that it is asked with a table whose rows number
-    /// one more than n, the last naming the count by its one shard.
+    /// one more than n, the last naming the count by its one shard. (The count 0 is refused.)
     fn rust_choice(&self) -> Result<Option<u64>, Fail> {
         let n = self.n as usize;
         let marked = self.tabled(|count| {
-            let mut rows = vec![wide(0); n + 1];
-            rows[n] = wide(1 << (count - 1));
+            let mut rows = vec![[0; 4]; n + 1];
+            rows[n] = row_of([count.saturating_sub(1)]);
             rows
         });
-        let count = |row: &api::Row| u64::from(row[0].trailing_zeros()) + 1;
+        let count = |row: &Row| shards_of(row).map(|shard| shard + 1).sum();
         self.ask(&marked).map(|rows| rows.get(n).map(count))
     }
 
     /// The Rust's rows.
     fn rust_rows(&self) -> Result<Vec<u64>, Fail> {
-        let real = |count| self.rows(count).iter().map(|&row| wide(row)).collect();
-        self.ask(&self.tabled(real)).map(|rows| row_words(&rows))
+        let real = |count| rows_of(self.rows(count)).to_vec();
+        self.ask(&self.tabled(real)).map(|rows| rows.concat())
     }
 }
 
@@ -258,13 +268,48 @@ fn told(
     told
 }
 
-/// One input of each listed difference.
+/// The overflow of an accepted input; `answer` is what a choice comes to.
+fn overflow(i: &Input, answer: impl Fn(Option<u64>) -> Answer) -> Option<Listed> {
+    i.overflows().then(|| {
+        let [rust, port] = i.choices().map(answer);
+        Listed {
+            name: IN_A_BYTE,
+            rust,
+            port,
+        }
+    })
+}
+
+/// One input of each listed difference, and tables of every length.
 fn fixed() -> Vec<Input> {
     let two_nans = Input {
         models: vec![[0.0; 3], [f64::NAN, -f64::NAN, 0.0]],
         ..nan_below()
     };
-    vec![nan_below(), two_nans, floor_in_a_byte()]
+    let mut fixed = vec![nan_below(), two_nans, floor_in_a_byte()];
+    fixed.extend([66, 80].map(wide));
+    for w in [2, 64, 65, 130, WIDEST] {
+        for words in tables(w, 20) {
+            let plain = Input {
+                w,
+                models: vec![[0.0; 3]; 2],
+                ..nan_below()
+            };
+            fixed.push(Input {
+                init: words.clone(),
+                ..plain.clone()
+            });
+            fixed.push(Input {
+                table: words,
+                ..plain
+            });
+        }
+    }
+    fixed.extend((0..=16).map(|room| Input {
+        room,
+        ..nan_below()
+    }));
+    fixed
 }
 
 /// A peer's slope is a NaN with its sign set.
@@ -283,9 +328,22 @@ pub fn nan_below() -> Input {
         models: vec![[0.0; 3], [-f64::NAN, 0.0, 0.0]],
         inflight: vec![0; 2],
         alive: 3,
-        init: vec![1, 2],
-        table: vec![1, 2, 3, 3],
-        room: 2,
+        init: table_at(0, &[1, 2]),
+        table: table_at(0, &[1, 2, 3, 3]),
+        room: 8,
+    }
+}
+
+/// Two of two replicas are to reply, and d shards are more than a word.
+fn wide(d: u64) -> Input {
+    let counts = (d / 2..=d).flat_map(|count| [row_below(count), row_below(count)]);
+    Input {
+        d,
+        w: WIDEST,
+        models: vec![[0.0; 3], [1.0, 1.0, 0.0]],
+        init: [row_below(d / 2), row_below(d)].concat(),
+        table: counts.flatten().collect(),
+        ..nan_below()
     }
 }
 
@@ -293,21 +351,21 @@ pub fn nan_below() -> Input {
 #[must_use]
 pub fn floor_in_a_byte() -> Input {
     Input {
-        n: 3,
-        f: 2,
+        n: 1,
+        f: 0,
         own: 0,
-        d: 64,
-        w: 64,
+        d: 128,
+        w: 128,
         majority: 1,
         size: 0,
         adaptive: false,
         balanced: true,
-        models: vec![[0.0; 3]; 3],
-        inflight: vec![0; 3],
+        models: vec![[0.0; 3]],
+        inflight: vec![0],
         alive: 0,
-        init: vec![1; 3],
-        table: vec![low(64); 3],
-        room: 3,
+        init: vec![0; 4],
+        table: row_below(128).to_vec(),
+        room: 4,
     }
 }
 
@@ -331,7 +389,8 @@ fn small_of(n: u64, k: &[u64]) -> Input {
     ];
     let (majority, share) = (k[1] + 1, k[3] + 1);
     let d = majority * share;
-    let rows = if k[6] == 0 { 0 } else { n * (d - share + 1) };
+    let counts = if k[6] == 0 { 0 } else { d - share + 1 };
+    let table = (0..n * counts).map(|r| low(share + r / n));
     // Our own model is one that would be the fastest.
     let mut given = vec![models[k[7] as usize], models[k[8] as usize]];
     given.insert(k[2].min(2) as usize, [-9.0; 3]);
@@ -348,23 +407,32 @@ fn small_of(n: u64, k: &[u64]) -> Input {
         models: given[..n as usize].to_vec(),
         inflight: vec![0; n as usize],
         alive: k[5],
-        init: vec![low(share); n as usize],
-        table: (0..rows).map(|r| low(share + r / n)).collect(),
-        room: n as usize,
+        init: table_at(0, &vec![low(share); n as usize]),
+        table: table_at(0, &table.collect::<Vec<_>>()),
+        room: row_words(n),
+    }
+}
+
+/// A multiple of the majority, mostly a small one where the table would be long.
+fn data_shards(rng: &mut Rng, n: u64, majority: u64) -> u64 {
+    match rng.below(4 * n * majority) {
+        0 => WIDEST / majority * majority,
+        1 => 65u64.next_multiple_of(majority),
+        2 => multiple(rng, majority),
+        _ => majority * rng.within(1..=3),
     }
 }
 
 fn random(rng: &mut Rng) -> Input {
     let n = population(rng);
     let majority = rng.within(1..=n);
-    let d = match rng.below(8) {
-        0 => 64 / majority * majority,
-        1 => multiple(rng, majority),
-        _ => multiple(rng, majority).min(3 * majority),
+    let d = data_shards(rng, n, majority);
+    let w = width(rng, d);
+    let counts = if rng.once_in(8) {
+        0
+    } else {
+        d - d / majority + 1
     };
-    let w = rng.within(d..=64);
-    let counts = d - d / majority + 1;
-    let rows = if rng.once_in(8) { 0 } else { n * counts };
     let floats = Floats::random(rng);
     let mut input = Input {
         n,
@@ -379,9 +447,9 @@ fn random(rng: &mut Rng) -> Input {
         models: (0..n).map(|_| floats.draw(rng)).collect(),
         inflight: (0..n).map(|_| bytes(rng, 1 << 40)).collect(),
         alive: set(rng, n) | rng.pick(&[0, low(n)]) & set(rng, n),
-        init: (0..n).map(|_| set(rng, d)).collect(),
-        table: (0..rows).map(|_| set(rng, w)).collect(),
-        room: n as usize,
+        init: rows(rng, n, d),
+        table: rows(rng, n * counts, w),
+        room: row_words(n),
     };
     while rng.once_in(3) {
         input.damage(rng);
@@ -394,6 +462,38 @@ fn words(i: &Input, line: &mut Line) {
     line.word(i.adaptive.into()).word(i.balanced.into());
     line.models(&i.models).slice(&i.inflight).word(i.alive);
     line.slice(&i.init).slice(&i.table);
+}
+
+/// Calls a C function with the policy's parameters and these behind them.
+#[cfg(feature = "port")]
+macro_rules! call {
+    ($function:path, $i:expr $(, $more:expr)*) => {{
+        let (i, floats) = ($i, $i.models.as_flattened());
+        // SAFETY: the tables are lent for the call, with their lengths, one that is written alone.
+        unsafe {
+            $function(
+                i.n,
+                i.f,
+                i.own,
+                i.d,
+                i.w,
+                i.majority,
+                i.size,
+                i.adaptive.into(),
+                i.balanced.into(),
+                floats.as_ptr(),
+                floats.len(),
+                i.inflight.as_ptr(),
+                i.inflight.len(),
+                i.alive,
+                i.init.as_ptr(),
+                i.init.len(),
+                i.table.as_ptr(),
+                i.table.len()
+                $(, $more)*
+            )
+        }
+    }};
 }
 
 impl Entry for Choice {
@@ -416,8 +516,16 @@ impl Entry for Choice {
         random(rng)
     }
 
+    fn width(i: &Input) -> Option<u64> {
+        Some(i.w)
+    }
+
     fn refusal(i: &Input) -> Checked {
         document::policy(i)
+    }
+
+    fn overflow(i: &Input) -> Option<Listed> {
+        overflow(i, |choice| Answer::fields(fields(choice)))
     }
 
     fn rust(i: &Input) -> Asked {
@@ -431,7 +539,8 @@ impl Entry for Choice {
 
     #[cfg(feature = "port")]
     fn port(i: &Input) -> Answer {
-        choice_of(callboard::pick_assignment_policy(policy_input(i)), vec![])
+        let choice = call!(raw::callboard_pick_assignment_policy, i);
+        choice_of(&choice, vec![])
     }
 
     fn words(i: &Input, line: &mut Line) {
@@ -459,8 +568,16 @@ impl Entry for PolicyRows {
         random(rng)
     }
 
+    fn width(i: &Input) -> Option<u64> {
+        Some(i.w)
+    }
+
     fn refusal(i: &Input) -> Checked {
         document::policy_rows(i)
+    }
+
+    fn overflow(i: &Input) -> Option<Listed> {
+        overflow(i, |choice| with_rows(i, choice))
     }
 
     fn rust(i: &Input) -> Asked {
@@ -476,8 +593,9 @@ impl Entry for PolicyRows {
     #[cfg(feature = "port")]
     fn port(i: &Input) -> Answer {
         let mut rows = junk(i.room);
-        let called = callboard::policy_rows(policy_input(i), &mut rows);
-        choice_of(called, rows)
+        let (lent, len) = (rows.as_mut_ptr(), rows.len());
+        let choice = call!(raw::callboard_policy_rows, i, lent, len);
+        choice_of(&choice, rows)
     }
 
     fn lent(i: &Input) -> Option<Vec<u64>> {
@@ -491,29 +609,6 @@ impl Entry for PolicyRows {
 }
 
 #[cfg(feature = "port")]
-fn choice_of(called: Result<callboard::Choice, callboard::Refusal>, lent: Vec<u64>) -> Answer {
-    Answer::of(called, lent, |choice| match choice {
-        callboard::Choice::Initial => [0, 0],
-        callboard::Choice::Balanced(count) => [1, count],
-    })
-}
-
-#[cfg(feature = "port")]
-fn policy_input(i: &Input) -> callboard::PolicyInput<'_> {
-    callboard::PolicyInput {
-        n: i.n,
-        f: i.f,
-        own: i.own,
-        d: i.d,
-        w: i.w,
-        majority: i.majority,
-        size: i.size,
-        adaptive: i.adaptive,
-        balanced: i.balanced,
-        models: &i.models,
-        inflight: &i.inflight,
-        alive: i.alive,
-        init: &i.init,
-        table: &i.table,
-    }
+fn choice_of(choice: &raw::Choice, lent: Vec<u64>) -> Answer {
+    Answer::given(choice.refusal, [choice.from_table, choice.count], lent)
 }

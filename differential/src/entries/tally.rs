@@ -6,7 +6,8 @@ use crate::document::{self, Checked};
 use crate::entry::{Answer, Asked, Entry, Outcome, Side, Told};
 use crate::line::Line;
 use crate::parts::{
-    above, damage_faults, each_of, fault_lists, faults, has, population, proper, set, shards, wide,
+    Row, STARTS, WIDEST, above, damage_faults, each_of, fault_lists, faults, has, population,
+    proper, row, row_above, row_at, row_words, set, shards, union,
 };
 use crate::rng::Rng;
 
@@ -32,7 +33,7 @@ pub struct Reply {
     pub ballot: u64,
     pub high: u64,
     pub low: u64,
-    pub row: u64,
+    pub row: Row,
     pub faults: Vec<u64>,
 }
 
@@ -48,7 +49,7 @@ pub struct State {
     pub opening: Opening,
     pub heard: u64,
     pub committed: u64,
-    pub rows: [u64; 16],
+    pub rows: [Row; 16],
 }
 
 #[derive(Debug, Clone)]
@@ -84,13 +85,13 @@ impl State {
             opening: opening.clone(),
             heard: 0,
             committed: 0,
-            rows: [0; 16],
+            rows: [[0; 4]; 16],
         }
     }
 
     /// The rows of those heard, as the Rust holds them.
-    fn acks(&self) -> Vec<Option<api::Row>> {
-        let ack = |p| has(self.heard, p).then(|| wide(self.rows[p as usize]));
+    fn acks(&self) -> Vec<Option<Row>> {
+        let ack = |p| has(self.heard, p).then_some(self.rows[p as usize]);
         (0..self.opening.n).map(ack).collect()
     }
 
@@ -101,7 +102,11 @@ impl State {
             return Ok(2);
         }
         let held = &mut self.rows[r.source as usize];
-        *held = r.row | if has(self.heard, r.source) { *held } else { 0 };
+        *held = if has(self.heard, r.source) {
+            union(r.row, *held)
+        } else {
+            r.row
+        };
         self.heard |= 1 << r.source;
         let o = &self.opening;
         let covered = api::covers(o.n as u8, &r.faults, o.w as u8, &self.acks(), o.d as u8)?;
@@ -114,7 +119,7 @@ impl State {
     fn handle(&mut self, tally: &mut api::Tally, r: &Reply) -> Result<u64, Fail> {
         let (source, w) = (r.source as u8, self.opening.w as u8);
         let id = value_id(r.high, r.low);
-        let status = match tally.reply(source, r.ballot, id, w, wide(r.row))? {
+        let status = match tally.reply(source, r.ballot, id, w, r.row)? {
             api::Reply::Pending => 0,
             api::Reply::Committed => 1,
             api::Reply::Ignored => 2,
@@ -122,7 +127,7 @@ impl State {
         self.heard = 0;
         for (p, ack) in (0..).zip(tally.acks()) {
             self.heard |= u64::from(ack.is_some()) << p;
-            self.rows[p as usize] = ack.map_or(0, |row| row[0]);
+            self.rows[p as usize] = ack.unwrap_or_default();
         }
         self.committed = tally.committed().into();
         Ok(status)
@@ -132,7 +137,7 @@ impl State {
     fn words(&self) -> Vec<u64> {
         let mut words = self.opening.words().to_vec();
         words.extend([self.heard, self.committed]);
-        words.extend(self.rows);
+        words.extend(self.rows.as_flattened());
         words
     }
 
@@ -205,7 +210,7 @@ impl Input {
                 if refusal.is_some() { 0 } else { status },
             ]);
             fields.extend([state.heard, state.committed]);
-            fields.extend(&state.rows[..self.opening.n as usize]);
+            fields.extend(state.rows[..self.opening.n as usize].as_flattened());
         }
         Ok(Told {
             outcomes,
@@ -233,7 +238,7 @@ fn damage_opening(rng: &mut Rng, o: &mut Opening) {
         0 => o.n = rng.around(16),
         1 => o.quorum = rng.around(o.n),
         2 => o.d = rng.around(o.w),
-        _ => o.w = rng.around(64),
+        _ => o.w = rng.around(WIDEST),
     }
 }
 
@@ -243,7 +248,7 @@ fn reply(rng: &mut Rng, o: &Opening, faults: &[u64]) -> Reply {
         ballot: o.ballot,
         high: o.high,
         low: o.low,
-        row: set(rng, o.w),
+        row: row(rng, o.w),
         faults: faults.to_vec(),
     };
     while rng.once_in(6) {
@@ -258,14 +263,40 @@ fn damage_reply(rng: &mut Rng, o: &Opening, r: &mut Reply) {
         1 => r.ballot = rng.around(r.ballot),
         2 => r.high ^= 1u64 << rng.below(64),
         3 => r.low ^= 1u64 << rng.below(64),
-        4 => r.row = above(rng, o.w),
+        4 => r.row = row_above(rng, o.w),
         _ => damage_faults(rng, o.n, &mut r.faults),
     }
 }
 
+/// Every three replies with these two shards, under one fault list.
+fn small_of(n: u64, faults: &[u64], from: u64, each: &mut dyn FnMut(Input)) {
+    let (shards, kinds) = (2, n << 2);
+    each_of(&[n, shards, kinds, kinds, kinds], &mut |k| {
+        let opening = Opening {
+            n,
+            quorum: k[0] + 1,
+            d: k[1] + 1,
+            w: from + shards,
+            ballot: 5,
+            high: 6,
+            low: 7,
+        };
+        let reply = |&kind: &u64| Reply {
+            source: kind % n,
+            ballot: 5,
+            high: 6,
+            low: 7,
+            row: row_at(from, kind / n),
+            faults: faults.to_vec(),
+        };
+        let replies = k[2..].iter().map(reply).collect();
+        each(Input { opening, replies });
+    });
+}
+
 fn reply_words(r: &Reply, line: &mut Line) {
-    line.words(&[r.source, r.ballot, r.high, r.low, r.row]);
-    line.slice(&r.faults);
+    line.words(&[r.source, r.ballot, r.high, r.low]);
+    line.words(&r.row).slice(&r.faults);
 }
 
 impl Entry for Replies {
@@ -282,30 +313,11 @@ impl Entry for Replies {
 
     /// Every three replies of 3 replicas with 2 shards, each under every single fault set.
     fn small(each: &mut dyn FnMut(Input)) {
-        for (n, w, most) in [(1, 2, 1), (2, 2, 3), (3, 2, 1)] {
+        for (n, most) in [(1, 1), (2, 3), (3, 1)] {
             for faults in fault_lists(n, most) {
-                let kinds = n << w;
-                each_of(&[n, w, kinds, kinds, kinds], &mut |k| {
-                    let opening = Opening {
-                        n,
-                        quorum: k[0] + 1,
-                        d: k[1] + 1,
-                        w,
-                        ballot: 5,
-                        high: 6,
-                        low: 7,
-                    };
-                    let reply = |&kind: &u64| Reply {
-                        source: kind % n,
-                        ballot: 5,
-                        high: 6,
-                        low: 7,
-                        row: kind / n,
-                        faults: faults.clone(),
-                    };
-                    let replies = k[2..].iter().map(reply).collect();
-                    each(Input { opening, replies });
-                });
+                for from in STARTS {
+                    small_of(n, &faults, from, each);
+                }
             }
         }
     }
@@ -328,6 +340,10 @@ impl Entry for Replies {
             damaged = rng.once_in(2);
         }
         Input { opening, replies }
+    }
+
+    fn width(i: &Input) -> Option<u64> {
+        Some(i.opening.w)
     }
 
     fn refusal(i: &Input) -> Checked {
@@ -357,11 +373,11 @@ impl Entry for Replies {
         for r in &i.replies {
             let (refusal, status) = accept(&mut tally, r);
             fields.extend([refusal, status, tally.heard, tally.committed]);
-            fields.extend(&tally.rows[..n]);
+            fields.extend(tally.rows[..n].as_flattened());
         }
         // What the opening set, and the rows at or above n, stay; if not, the answers differ.
         (tally.heard, tally.committed) = (0, 0);
-        tally.rows[..n].fill(0);
+        tally.rows[..n].fill([0; 4]);
         if tally != State::open(o).port() {
             fields.extend(tally_words(&tally));
         }
@@ -380,7 +396,7 @@ impl Entry for Replies {
         line.words(&i.opening.words()).word(answer.refusal);
         if answer.refusal == 0 {
             line.word(i.replies.len() as u64);
-            let after = answer.fields.chunks(4 + i.opening.n as usize);
+            let after = answer.fields.chunks(4 + row_words(i.opening.n));
             for (reply, after) in i.replies.iter().zip(after) {
                 reply_words(reply, &mut line);
                 line.words(after);
@@ -412,14 +428,18 @@ impl Entry for HandedIn {
             opening,
             heard: 0,
             committed: rng.pick(&[0, 0, 0, 0, 0, 1, 7, u64::MAX]),
-            rows: std::array::from_fn(|_| rng.word()),
+            rows: [(); 16].map(|()| [(); 4].map(|()| rng.word())),
         };
         state.heard = set(rng, n as u64);
-        state.rows[..n].fill_with(|| set(rng, w));
+        state.rows[..n].fill_with(|| row(rng, w));
         while rng.once_in(4) {
             damage_state(rng, &mut state);
         }
         StateInput { state, reply }
+    }
+
+    fn width(i: &StateInput) -> Option<u64> {
+        Some(i.state.opening.w)
     }
 
     fn refusal(i: &StateInput) -> Checked {
@@ -460,7 +480,7 @@ impl Entry for HandedIn {
 fn damage_state(rng: &mut Rng, s: &mut State) {
     match rng.below(3) {
         0 => s.heard = above(rng, s.opening.n),
-        1 => s.rows[rng.index(16)] = above(rng, s.opening.w),
+        1 => s.rows[rng.index(16)] = row_above(rng, s.opening.w),
         _ => damage_opening(rng, &mut s.opening),
     }
 }
@@ -479,6 +499,6 @@ fn accept(tally: &mut callboard::Tally, r: &Reply) -> (u64, u64) {
 fn tally_words(t: &callboard::Tally) -> Vec<u64> {
     let mut words = vec![t.population, t.quorum, t.data_shards, t.width, t.ballot];
     words.extend([t.value_high, t.value_low, t.heard, t.committed]);
-    words.extend(t.rows);
+    words.extend(t.rows.as_flattened());
     words
 }

@@ -1,6 +1,8 @@
 -- `adaptive::best_shards` meets its contract. Assumes nothing.
+use mathlib.Core.Path.{ap, _∙_}
 use native.Mathlib.Omega.{arith}
 use borrow.Author.Needs.{needs}
+use Rattle.bitmap.specs.Mask.{count}
 use Rattle.adaptive.specs.Policy.{bestShards}
 use Rattle.steps.proofs.Steps.{best-small, best-le}
 use Rattle.adaptive.proofs.best_shards.Statement.{statement}
@@ -22,4 +24,4 @@ best-shards-spec =
     (λ c. rw (c .before .if1 .taken, c .best-step .ensures))
     (λ c. search needs)
     (λ c κs. search needs)
-    (λ c. rw (c .before .before .if1 .left) (c .count .ensures)))
+    (λ c. rw (c .before .before .if1 .left) (c .count .ensures ∙ ap count (c .before .row-in .ensures))))

@@ -4,6 +4,7 @@ use mathlib.Core.Option.{Option}
 use Prim.Native.Nat.{ℕ}
 use borrow.Author.Needs.{needs}
 use Rattle.refusals.specs.Outcome.{Outcome}
+use Rattle.rows.specs.Row.{rowsIn, spelled}
 use Rattle.adaptive.specs.Policy.{rowsOf}
 use Rattle.adaptive.proofs.Entries.{policy-holds}
 use Rattle.adaptive.proofs.pick_assignment_policy_rows.Statement.{statement}
@@ -19,4 +20,4 @@ pick-assignment-policy-rows-spec =
     let p = c .before in
     let a = p .before .before .before .args in
     c .rows-of .ensures
-    ∙ ap (λ (o : Outcome (Option ℕ)). rowsOf (a .n) (a .d) (a .majority) o (a .initial .now) (a .table .now)) (p .pick-assignment-policy .ensures)))
+    ∙ ap (λ (o : Outcome (Option ℕ)). spelled (rowsOf (a .n) (a .d) (a .majority) o (rowsIn (a .initial .now)) (rowsIn (a .table .now)))) (p .pick-assignment-policy .ensures)))

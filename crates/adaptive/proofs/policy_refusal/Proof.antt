@@ -3,7 +3,7 @@ use mathlib.Core.Path.{_≡_, refl}
 use Prim.Native.Nat.{ℕ}
 use borrow.Author.Needs.{needs}
 use lib.ListN.{take}
-use Rattle.refusals.proofs.Checks.{checks, at-most-16, small-shards, some-majority, call-passes, call-fails, eq-passes, eq-fails}
+use Rattle.refusals.proofs.Checks.{checks, at-most-16, small-shards, some-majority, call-passes, call-fails}
 use Rattle.adaptive.specs.Policy.{policyCases, policyRefusal}
 use Rattle.adaptive.proofs.Entries.{onwards}
 use Rattle.adaptive.proofs.policy_refusal.Statement.{statement}
@@ -46,29 +46,30 @@ policy-refusal-spec =
     let i = c .before .before in
     numbers-pass (i .before .before) _ _
     (call-passes _ _ _ _ _ (i .before .are-rows .ensures) (i .if10 .left) (call-fails _ _ _ _ (c .before .are-rows2 .ensures) (c .if11 .taken))))
+    (λ c κs. search needs)
     (λ c.
-    let j = c .before in
+    let j = c .before .before in
     let i = j .before .before in
     numbers-pass (i .before .before) _ _
     (call-passes _ _ _ _ _ (i .before .are-rows .ensures) (i .if10 .left)
-    (call-passes _ _ _ _ _ (j .before .are-rows2 .ensures) (j .if11 .left) (eq-fails _ _ _ _ (c .if12 .taken)))))
+    (call-passes _ _ _ _ _ (j .before .are-rows2 .ensures) (j .if11 .left) (call-fails _ _ _ _ (c .before .is-table .ensures) (c .if12 .taken)))))
     (λ c κs.
-    let q = c .before .before .before .before .before .before .before .before .before .before .before .before in
+    let q = c .before .before .before .before .before .before .before .before .before .before .before .before .before in
     let h = q .before .before in
     (search at-most-16, small-shards _ _ _ (h .before .is-shards .ensures) (h .if4 .left), some-majority _ _ _ (q .before .is-quorum .ensures) (q .if5 .left)))
     (λ c.
     let k = c .before .before in
-    let j = k .before in
+    let j = k .before .before in
     let i = j .before .before in
     numbers-pass (i .before .before) _ _
     (call-passes _ _ _ _ _ (i .before .are-rows .ensures) (i .if10 .left)
     (call-passes _ _ _ _ _ (j .before .are-rows2 .ensures) (j .if11 .left)
-    (eq-passes _ _ _ _ _ (k .if12 .left) (call-fails _ _ _ _ (c .before .is-table .ensures) (c .if13 .taken))))))
+    (call-passes _ _ _ _ _ (k .before .is-table .ensures) (k .if12 .left) (call-fails _ _ _ _ (c .before .is-balanced-table .ensures) (c .if13 .taken))))))
     (λ c.
     let k = c .before .before in
-    let j = k .before in
+    let j = k .before .before in
     let i = j .before .before in
     numbers-pass (i .before .before) _ _
     (call-passes _ _ _ _ _ (i .before .are-rows .ensures) (i .if10 .left)
     (call-passes _ _ _ _ _ (j .before .are-rows2 .ensures) (j .if11 .left)
-    (eq-passes _ _ _ _ _ (k .if12 .left) (call-passes _ _ _ _ _ (c .before .is-table .ensures) (c .if13 .left) refl))))))
+    (call-passes _ _ _ _ _ (k .before .is-table .ensures) (k .if12 .left) (call-passes _ _ _ _ _ (c .before .is-balanced-table .ensures) (c .if13 .left) refl))))))

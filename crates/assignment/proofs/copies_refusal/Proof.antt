@@ -15,5 +15,6 @@ copies-refusal-spec =
     (λ c κs. search needs)
     (λ c κs. search needs)
     (λ c. search layout-checks)
+    (λ c κs. search needs)
     (λ c. search layout-checks)
     (λ c. search layout-checks))

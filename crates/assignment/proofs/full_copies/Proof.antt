@@ -20,7 +20,10 @@ full-copies-spec =
     let i = c in
     let s = copies-sound _ _ _ _ .0 (sym (i .before .copies-refusal .ensures) ∙ i .if1 .left) in
     omega (arith, s .shards))
-    (λ c κs. search needs)
+    (λ c κs.
+    let i = c .before .before in
+    let s = copies-sound _ _ _ _ .0 (sym (i .before .copies-refusal .ensures) ∙ i .if1 .left) in
+    omega (arith, s .table))
     (λ c κs. search needs)
     (λ c. search needs)
     (λ c. (search outcomes, search copies-done)))

@@ -16,4 +16,4 @@ lay-out-spec =
     let y = c .before .before in
     let i = y .before .before in
     let s = i .before .before .before .before .before in
-    laid-plan _ _ _ _ _ _ _ _ _ (i .before .commits .ensures) (i .if1 .left) (s .pre .2) (s .pre .3) (y .lay .ensures .0) (y .lay .ensures .1)))
+    laid-plan _ _ _ _ _ _ _ _ _ (i .before .commits .ensures) (i .if1 .left) (s .pre .0) (s .pre .2) (s .pre .3) (y .lay .ensures .0) (y .lay .ensures .1)))

@@ -26,5 +26,6 @@ pick-refusal-spec =
     (λ c. search layout-checks depth 20 fits 20000)
     (λ c κs. search at-most-64)
     (λ c. search layout-checks depth 20 fits 20000)
+    (λ c κs. search needs)
     (λ c. search layout-checks depth 20 fits 20000)
     (λ c. search layout-checks depth 20 fits 20000))

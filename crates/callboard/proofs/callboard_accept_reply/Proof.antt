@@ -57,6 +57,10 @@ use Rattle.c_types.proofs.Tally as T
 use Rattle.c_types.proofs.Tally.Laws as T′
 use Rattle.c_types.proofs.Reply as S
 use Rattle.c_types.proofs.Reply.Laws as S′
+use Rattle.rows.specs.declared.Row.{Row}
+use Rattle.rows.specs.Row.{rowOf}
+use Rattle.rows.proofs.Row as Q
+use Rattle.rows.proofs.Row.Laws as Q′
 use Rattle.callboard.proofs.Replied as R
 use Rattle.callboard.proofs.Replied.Laws as R′
 use Rattle.callboard.proofs.counted as counted
@@ -78,13 +82,16 @@ stayed = (
       stay-dropped (plain (λ _. u64)) yes,
       (
         stay-dropped (plain (λ _. u64)) yes,
-        (stay-dropped (plain (λ _. u64)) yes, (stay-dropped (plain (λ _. u64)) yes, (stay-dropped (shrSliceOf (1 ∷ []) tt (plain (λ _. u64))) yes, tt))),
+        (stay-dropped (plain (λ _. u64)) yes, (stay-dropped (plain (λ _. Q.the-row)) yes, (stay-dropped (shrSliceOf (1 ∷ []) tt (plain (λ _. u64))) yes, tt))),
       ),
     ),
   ),
 )
 
 -- a record's machine values, and what of each whoever holds a `Replied` knows
+abbrev rowv : Row → List Val
+rowv = LL.vals Q.the-type Q′.the-laws
+
 abbrev vals : Tally → List Val
 vals = LL.vals T.the-type T′.the-laws
 
@@ -97,10 +104,10 @@ module _ {M : Type 1} (𝓤 : URA M) (H : Heap 𝓤) (A : Atoms 𝓤) (mem : Mem
   CountedContract = tripleOf 𝓤 H A counted.signature (counted.spec 𝓤 H A mem run)
 
 module _ {M : Type 1} (𝓤 : URA M) (H : Heap 𝓤) (A : Atoms 𝓤) (W : Given 𝓤 H A) (at-mem : Memory → SProp 𝓤) (run : Routine → Fun 𝓤) (κ κ′ : Lft) (q q′ : Share) (b o : ℕ) (γ : GName) (h : Tally)
-    (src bal hi lo row : ℕ) (fl : RefT (List ℕ)) where
+    (src bal hi lo : ℕ) (row : Row) (fl : RefT (List ℕ)) where
   -- the parameters past the first, and their machine values
   abbrev Rest : Type 0
-  Rest = ℕ × (ℕ × (ℕ × (ℕ × (ℕ × (RefT (List ℕ) × Unit {0})))))
+  Rest = ℕ × (ℕ × (ℕ × (ℕ × (Row × (RefT (List ℕ) × Unit {0})))))
 
   abbrev rest : Rest
   rest = (src, (bal, (hi, (lo, (row, (fl, tt))))))
@@ -112,7 +119,7 @@ module _ {M : Type 1} (𝓤 : URA M) (H : Heap 𝓤) (A : Atoms 𝓤) (W : Given
   Restv = List Val × (List Val × (List Val × (List Val × (List Val × (List Val × Unit {0})))))
 
   abbrev restv : Restv
-  restv = (vint w64 src ∷ [], (vint w64 bal ∷ [], (vint w64 hi ∷ [], (vint w64 lo ∷ [], (vint w64 row ∷ [], (f ∷ [], tt))))))
+  restv = (vint w64 src ∷ [], (vint w64 bal ∷ [], (vint w64 hi ∷ [], (vint w64 lo ∷ [], (rowv row, (f ∷ [], tt))))))
 
   abbrev x : RefT Tally × Rest
   x = (record { ptr = (b, o); name = γ; now = h }, rest)
@@ -122,7 +129,7 @@ module _ {M : Type 1} (𝓤 : URA M) (H : Heap 𝓤) (A : Atoms 𝓤) (W : Given
 
   -- what the contracts of `counted` and of `callboard_accept_reply` say: of the answer, and of the tally left
   abbrev Said : Reply → Tally → Type 0
-  Said a z = (a ≡ toReply (replyOf (fromTally h) (told src bal hi lo row (fl .now)))) × (z ≡ tallyLeft h (tallyAfter (fromTally h) (told src bal hi lo row (fl .now))))
+  Said a z = (a ≡ toReply (replyOf (fromTally h) (told src bal hi lo (rowOf row) (fl .now)))) × (z ≡ tallyLeft h (tallyAfter (fromTally h) (told src bal hi lo (rowOf row) (fl .now))))
 
   abbrev Found : Replied → Type 0
   Found r = Said (r .reply) (r .tally)
@@ -132,7 +139,7 @@ module _ {M : Type 1} (𝓤 : URA M) (H : Heap 𝓤) (A : Atoms 𝓤) (W : Given
   said-kept r e nonzero = (
     e .0,
     sym (
-        kept h (told src bal hi lo row (fl .now))
+        kept h (told src bal hi lo (rowOf row) (fl .now))
         (λ z. T-not (eqb (r .reply .refusal) 0) nonzero (subst (λ (k : ℕ). T (eqb (r .reply .refusal) k)) (ap (λ (a : Reply). a .refusal) (e .0) ∙ z) (eqb-refl (r .reply .refusal))))
         ),
   )
@@ -145,7 +152,7 @@ module _ {M : Type 1} (𝓤 : URA M) (H : Heap 𝓤) (A : Atoms 𝓤) (W : Given
   to = (((κ′, tt), (q′, tt), tt, (h, rest), (vals h, restv)), tt)
 
   asked : ent 𝓤 (onEntry 𝓤 H A counted.signature (κ′, tt) (q′, tt) (h, rest) (vals h, restv)) (CountedContract 𝓤 H A at-mem run .pre to)
-  asked = qed W ((‵ (flft κ′ q′) ⊛ ‵ ftrue) ∷ ‵ (owns (T.the-row ∷ usize ∷ u64 ∷ u64 ∷ u64 ∷ u64 ∷ ShrSlice (named 0) κ′ u64 ∷ []) (h, rest) (vals h, restv)) ∷ []) ∵ join ! $ frame ! $ done !
+  asked = qed W ((‵ (flft κ′ q′) ⊛ ‵ ftrue) ∷ ‵ (owns (T.the-row ∷ usize ∷ u64 ∷ u64 ∷ u64 ∷ Q.the-row ∷ ShrSlice (named 0) κ′ u64 ∷ []) (h, rest) (vals h, restv)) ∷ []) ∵ join ! $ frame ! $ done !
 
   -- of `counted`'s `ensured`, the clause alone: it has no `&mut`, so what is said of last values is dropped
   said : (r : Replied) → ent 𝓤 (ensured 𝓤 H A counted.ended (counted.clauses 𝓤 H A at-mem run) (κ′, tt) (h, rest) tt r) (fact 𝓤 (Found r))
@@ -164,18 +171,18 @@ module _ {M : Type 1} (𝓤 : URA M) (H : Heap 𝓤) (A : Atoms 𝓤) (W : Given
   -- the locals, for the code after the branch
   abbrev E : ℕ → ℕ → ℕ → ℕ → ℕ → ℕ → ℕ → ℕ → ℕ → ℕ → ℕ → Env 𝓤 H
   E l₀ l₁ l₂ l₃ l₄ l₅ l₆ l₇ l₈ l₉ l₁₀ =
-      (S′.mir, l₀) ∷ (tyRef (named 0) mut (pointee (T.the-row .written)), l₁) ∷ (tyInt w64, l₂) ∷ (tyInt w64, l₃) ∷ (tyInt w64, l₄) ∷ (tyInt w64, l₅) ∷ (tyInt w64, l₆)
+      (S′.mir, l₀) ∷ (tyRef (named 0) mut (pointee (T.the-row .written)), l₁) ∷ (tyInt w64, l₂) ∷ (tyInt w64, l₃) ∷ (tyInt w64, l₄) ∷ (tyInt w64, l₅) ∷ (Q′.mir, l₆)
       ∷ (sliceTy (tyRef (named 1) imm (tyInt w64)), l₇) ∷ (R′.mir, l₈) ∷ (T′.mir, l₉) ∷ (tyBool, l₁₀) ∷ []
 
   module _ (C : Calls 𝓤 H) (Λ : Loops 𝓤 H) (fm : FmC 𝓤 H (W .laws) C) (known : Triple 𝓤 (C #callboard·counted) (CountedContract 𝓤 H A at-mem run)) where
-    walk : src < 2 ^ 64 → bal < 2 ^ 64 → hi < 2 ^ 64 → lo < 2 ^ 64 → row < 2 ^ 64 → length (fl .now) < 2 ^ 64
-        → ent 𝓤 (onEntry 𝓤 H A accept.signature (κ, (κ′, tt)) (q, (q′, tt)) x at) (WpFn 𝓤 H C Λ code.function (vptr b o ∷ vint w64 src ∷ vint w64 bal ∷ vint w64 hi ∷ vint w64 lo ∷ vint w64 row ∷ f ∷ []) Post)
+    walk : src < 2 ^ 64 → bal < 2 ^ 64 → hi < 2 ^ 64 → lo < 2 ^ 64 → Is Q.the-row row (rowv row) → length (fl .now) < 2 ^ 64
+        → ent 𝓤 (onEntry 𝓤 H A accept.signature (κ, (κ′, tt)) (q, (q′, tt)) x at) (WpFn 𝓤 H C Λ code.function (vptr b o ∷ vint w64 src ∷ vint w64 bal ∷ vint w64 hi ∷ vint w64 lo ∷ only (rowv row) ∷ f ∷ []) Post)
     walk g₂ g₃ g₄ g₅ g₆ g₇ =
-        qed W ((‵ (flft κ q) ⊛ ‵ (flft κ′ q′) ⊛ ‵ ftrue) ∷ ‵ (owns (MutRef (named 0) κ T.the-row ∷ usize ∷ u64 ∷ u64 ∷ u64 ∷ u64 ∷ ShrSlice (named 1) κ′ u64 ∷ []) x at) ∷ []) ∵
-        enter ! C Λ code.function (vptr b o ∷ vint w64 src ∷ vint w64 bal ∷ vint w64 hi ∷ vint w64 lo ∷ vint w64 row ∷ f ∷ []) _ $
+        qed W ((‵ (flft κ q) ⊛ ‵ (flft κ′ q′) ⊛ ‵ ftrue) ∷ ‵ (owns (MutRef (named 0) κ T.the-row ∷ usize ∷ u64 ∷ u64 ∷ u64 ∷ Q.the-row ∷ ShrSlice (named 1) κ′ u64 ∷ []) x at) ∷ []) ∵
+        enter ! C Λ code.function (vptr b o ∷ vint w64 src ∷ vint w64 bal ∷ vint w64 hi ∷ vint w64 lo ∷ only (rowv row) ∷ f ∷ []) _ $
         alloc1 ! (λ l₀. alloc1 ! (λ l₁. alloc1 ! (λ l₂. alloc1 ! (λ l₃. alloc1 ! (λ l₄. alloc1 ! (λ l₅. alloc1 ! (λ l₆. alloc1 ! (λ l₇. alloc1 ! (λ l₈. alloc1 ! (λ l₉. alloc1 ! (λ l₁₀. alloc0 ! $ params1 ! $
         pass1 ! (init ! 18 refl (tt, tt)) $ pass1 ! (init ! 16 refl (tt, record { fits = g₂ })) $ pass1 ! (init ! 14 refl (tt, record { fits = g₃ })) $ pass1 ! (init ! 12 refl (tt, record { fits = g₄ })) $
-        pass1 ! (init ! 10 refl (tt, record { fits = g₅ })) $ pass1 ! (init ! 8 refl (tt, record { fits = g₆ })) $ pass1 ! (init ! 6 refl (tt, (tt, (record { fits = g₇ }, tt)))) $ pass0 ! $
+        pass1 ! (init ! 10 refl (tt, record { fits = g₅ })) $ pass1 ! (init ! 8 refl (LL.lawful Q.the-type Q′.the-laws 𝓤 H A W .typed row _ g₆ .0)) $ pass1 ! (init ! 6 refl (tt, (tt, (record { fits = g₇ }, tt)))) $ pass0 ! $
         -- the borrow is opened
         move ! (23 ∷ []) $ fsplit ! $ fsplit3 ! $ drop ! $ move ! (25 ∷ []) $ split ! $ move ! (2 ∷ 3 ∷ 0 ∷ []) $
         opens ! tt T.the-row {h = h} b o (λ vs. spelt ! T.the-row (Is T.the-row) (shows 𝓤 H A T.the-row) vals (LL.tells T.the-type T′.the-laws) fullShare h vs b o $
@@ -216,11 +223,11 @@ module _ {M : Type 1} (𝓤 : URA M) (H : Heap 𝓤) (A : Atoms 𝓤) (W : Given
 module _ {M : Type 1} (𝓤 : URA M) (H : Heap 𝓤) (A : Atoms 𝓤) (W : Given 𝓤 H A) (mem : Memory → SProp 𝓤) (run : Routine → Fun 𝓤) where
   accept-walks : (C : Calls 𝓤 H) (Λ : Loops 𝓤 H) → FmC 𝓤 H (W .laws) C → Triple 𝓤 (C #callboard·counted) (CountedContract 𝓤 H A mem run) → Walks 𝓤 H A accept.ended stayed (WpFn 𝓤 H C Λ code.function) (accept.clauses 𝓤 H A mem run)
   accept-walks C Λ fm known = walked 𝓤 H A accept.ended stayed (accept.clauses 𝓤 H A mem run) (WpFn 𝓤 H C Λ code.function)
-      (λ κs. (ptr-vals, (uint-vals w64, (uint-vals w64, (uint-vals w64, (uint-vals w64, (uint-vals w64, (slice-vals, tt))))))))
-      (λ κs. (mut-tells (named 0) (κs .0) T.the-row, (uint-tells w64, (uint-tells w64, (uint-tells w64, (uint-tells w64, (uint-tells w64, (shr-slice-tells (named 1) (κs .1 .0) u64, tt))))))))
+      (λ κs. (ptr-vals, (uint-vals w64, (uint-vals w64, (uint-vals w64, (uint-vals w64, (rowv, (slice-vals, tt))))))))
+      (λ κs. (mut-tells (named 0) (κs .0) T.the-row, (uint-tells w64, (uint-tells w64, (uint-tells w64, (uint-tells w64, (LL.tells Q.the-type Q′.the-laws, (shr-slice-tells (named 1) (κs .1 .0) u64, tt))))))))
       (λ κs qs bounds a g are. via 𝓤 _ (fst∗ 𝓤 _ (emp 𝓤)) (walk 𝓤 H A W mem run (κs .0) (κs .1 .0) (qs .0) (qs .1 .0) (a .0 .ptr .0) (a .0 .ptr .1) (a .0 .name) (a .0 .now)
       (a .1 .0) (a .1 .1 .0) (a .1 .1 .1 .0) (a .1 .1 .1 .1 .0) (a .1 .1 .1 .1 .1 .0) (a .1 .1 .1 .1 .1 .1 .0) C Λ fm known
-      (are .1 .0 .1) (are .1 .1 .0 .1) (are .1 .1 .1 .0 .1) (are .1 .1 .1 .1 .0 .1) (are .1 .1 .1 .1 .1 .0 .1) (are .1 .1 .1 .1 .1 .1 .0 .0 .1 .0)))
+      (are .1 .0 .1) (are .1 .1 .0 .1) (are .1 .1 .1 .0 .1) (are .1 .1 .1 .1 .0 .1) (are .1 .1 .1 .1 .1 .0) (are .1 .1 .1 .1 .1 .1 .0 .0 .1 .0)))
 
   goes : AllGo 𝓤 H A W 2 (accept.signature .params) (accept.ended .kept) stayed
   goes = (
@@ -231,7 +238,7 @@ module _ {M : Type 1} (𝓤 : URA M) (H : Heap 𝓤) (A : Atoms 𝓤) (W : Given
         goes-dropped 𝓤 H A W 2 (plain (λ _. u64)) yes (λ κs x f. refl),
         (
           goes-dropped 𝓤 H A W 2 (plain (λ _. u64)) yes (λ κs x f. refl),
-          (goes-dropped 𝓤 H A W 2 (plain (λ _. u64)) yes (λ κs x f. refl), (goes-dropped 𝓤 H A W 2 (plain (λ _. u64)) yes (λ κs x f. refl), (goes-dropped 𝓤 H A W 2 (shrSliceOf (1 ∷ []) tt (plain (λ _. u64))) yes (λ κs x f. refl), tt))),
+          (goes-dropped 𝓤 H A W 2 (plain (λ _. u64)) yes (λ κs x f. refl), (goes-dropped 𝓤 H A W 2 (plain (λ _. Q.the-row)) yes (λ κs x f. refl), (goes-dropped 𝓤 H A W 2 (shrSliceOf (1 ∷ []) tt (plain (λ _. u64))) yes (λ κs x f. refl), tt))),
         ),
       ),
     ),

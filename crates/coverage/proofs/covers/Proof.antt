@@ -13,6 +13,6 @@ covers-spec =
     (tie.spec
     (λ c κs. search needs)
     (λ c. search said)
-    (λ c κs. search covers-room)
+    (λ c κs. covers-room _ _ _ _ _ _ _ (c .before .covers-refusal .ensures) (c .if1 .left))
     (λ c. search said)
     (λ c. search said))

@@ -18,6 +18,7 @@ covers-refusal-spec =
     (λ c. search checks depth 16 fits 5000)
     (λ c κs. search needs)
     (λ c. search checks depth 16 fits 5000)
+    (λ c κs. search needs)
     (λ c. search checks depth 16 fits 5000)
     (λ c κs. search at-most-64)
     (λ c. search checks depth 16 fits 5000)

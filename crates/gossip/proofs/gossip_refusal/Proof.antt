@@ -24,6 +24,8 @@ gossip-refusal-spec =
     (λ c. search checks depth 16 fits 5000)
     (λ c κs. search needs)
     (λ c. search checks depth 16 fits 5000)
+    (λ c κs. search needs)
     (λ c. search checks depth 16 fits 5000)
+    (λ c κs. search needs)
     (λ c. search checks depth 16 fits 5000)
     (λ c. search checks depth 16 fits 5000))

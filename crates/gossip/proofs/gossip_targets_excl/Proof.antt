@@ -1,5 +1,5 @@
 -- `gossip::gossip_targets_excl` meets its contract. Assumes nothing.
-use mathlib.Core.Path.{sym, _∙_}
+use mathlib.Core.Path.{refl, sym, _∙_}
 use native.Mathlib.Omega.{arith}
 use borrow.Author.Needs.{needs}
 use Rattle.refusals.proofs.Outcomes.{outcomes, leaves-all}
@@ -31,4 +31,10 @@ gossip-targets-excl-spec =
     let e = i .before .gossip-refusal .ensures in
     let z = i .if1 .left in
     let x = i .before .before .before .before .args .exclusions .now in
-    (asks _ _ _ _ _ _ _ _ x _ e z _ (f .fill .ensures) _ (l .walk .ensures), excludes _ _ _ _ _ _ _ _ x _ e z _ (f .fill .ensures) _ (l .walk .ensures))))
+    let s = gossip-sound _ _ _ _ _ _ _ _ _ .0 (sym e ∙ z) in
+    let t = l .walk .last .1 .1 .1 .1 .1 .1 .1 .0 in
+    let k = f .fill .kept .1 .0 in
+    let j = l .walk .kept .1 .1 .1 .1 .1 .1 .1 .0 in (
+      asks _ _ _ _ _ _ _ _ x _ e z _ (f .fill .ensures) _ (l .walk .ensures),
+      excludes _ _ _ _ _ _ _ _ x _ e z _ (f .fill .ensures) _ (l .walk .ensures) t refl (λ i. c .slice-known3 .given i .fits) (omega (arith, j, k, s .each-exclusion)),
+    )))

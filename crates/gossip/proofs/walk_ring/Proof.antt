@@ -3,20 +3,22 @@ use mathlib.Core.Path.{_≡_, refl, ap, ap₂, _∙_}
 use mathlib.Core.Logic.{⊎-elim}
 use Prim.Native.Nat.{_+_, _-_, _≤_}
 use borrow.Author.Needs.{needs}
+use mathlib.Core.List.{List}
+use Prim.Native.Nat.{ℕ}
 use lib.ListN.{length}
-use Rattle.bitmap.specs.Mask.{rowIn}
+use Rattle.rows.specs.Row.{rowOf, rowIn, rowsIn}
 use Rattle.gossip.specs.Gossip.{walked, fresh}
 use Rattle.gossip.proofs.Steps.{place-below, place-inside, ringTo, ring-starts, ring-source, ring-other, ring-over, ring-done}
 use Rattle.gossip.proofs.walk_ring.Statement.{statement}
 use Rattle.gossip.proofs.walk_ring.Tie as tie
 
 abbrev Inv-loop : tie.InvT-loop
-Inv-loop n own source d available rows alive exclusions₀ so-far₀ j₀ exclusions so-far j =
+Inv-loop n own source d rows alive exclusions₀ so-far₀ j₀ exclusions so-far j =
     (j + 1 ≤ n) × (length exclusions ≡ length exclusions₀)
-    × (walked so-far exclusions ≡ ringTo n (own .0) (source .0) d (rowIn rows) alive (fresh available exclusions₀) j)
+    × (walked so-far (rowsIn exclusions) ≡ ringTo n (own .0) (source .0) d (rowIn rows) alive (fresh (rowOf (so-far₀ .available)) (rowsIn exclusions₀)) j)
 
 abbrev μ-loop : tie.MeasureT-loop
-μ-loop n own source d available rows alive exclusions₀ so-far₀ j₀ exclusions so-far j = n - j
+μ-loop n own source d rows alive exclusions₀ so-far₀ j₀ exclusions so-far j = n - j
 
 pub walk-ring-spec : {M : Type 1} → statement M
 walk-ring-spec =
@@ -39,8 +41,8 @@ walk-ring-spec =
       search needs,
       ⊎-elim (λ w. ap length (w .5) ∙ w .2 .kept .1 .1 .1 .1 .1 .0 ∙ l .loop .inv .1) (λ w. ap length (w .1) ∙ l .loop .inv .1) (c .if2 .came),
       ⊎-elim
-          (λ w. ring-other _ _ _ _ _ _ _ (l .loop .j) _ (l .loop .inv .2) _ (w .0 .taken) (ap₂ walked (w .6) (w .5) ∙ w .2 .ensures))
-          (λ w. ap₂ walked (w .2) (w .1) ∙ ring-source _ _ _ _ _ _ _ (l .loop .j) _ (l .loop .inv .2) (w .0 .left))
+          (λ w. ring-other _ _ _ _ _ _ _ (l .loop .j) _ (l .loop .inv .2) _ (w .0 .taken) (ap₂ (λ v l. walked v (rowsIn l)) (w .6) (w .5) ∙ w .2 .ensures))
+          (λ w. ap₂ (λ v l. walked v (rowsIn l)) (w .2) (w .1) ∙ ring-source _ _ _ _ _ _ _ (l .loop .j) _ (l .loop .inv .2) (w .0 .left))
           (c .if2 .came),
     ))
     (λ c. search needs)

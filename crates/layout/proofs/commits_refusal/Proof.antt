@@ -23,5 +23,6 @@ commits-refusal-spec =
     (λ c. search layout-checks depth 16 fits 5000)
     (λ c κs. search at-most-64)
     (λ c. search layout-checks depth 16 fits 5000)
+    (λ c κs. search needs)
     (λ c. search layout-checks depth 16 fits 5000)
     (λ c. search layout-checks depth 16 fits 5000))

@@ -7,7 +7,7 @@ use Rattle.lists.proofs.Lent.{lent, back, back-room, back-lent}
 use Rattle.refusals.proofs.Outcomes.{outcomes, leaves-all}
 use Rattle.layout.specs.Layout.{layoutCommitsOf, trialWritten}
 use Rattle.layout.specs.RefusalLaws.{trial-sound}
-use Rattle.layout.proofs.Entries.{trial-small, trial-written, trial-says}
+use Rattle.layout.proofs.Entries.{trial-small, trial-below, trial-written, trial-says}
 use Rattle.layout.proofs.layout_commits.Statement.{statement}
 use Rattle.layout.proofs.layout_commits.Tie as tie
 
@@ -34,9 +34,13 @@ layout-commits-spec =
     (s .shards, omega (arith, k, s .population .1), omega (arith, k, s .table)))
     (λ c κs.
     let l = c .before .before .before in
-    let i = l .before .before .before .before .before .before in
-    let s = trial-sound _ _ _ _ _ _ _ _ .0 (sym (i .before .commits-refusal .ensures) ∙ i .if1 .left) in
-    omega arith)
+    let g = l .before .before .before .before in
+    let i = g .before .before in
+    let e = i .before .commits-refusal .ensures in
+    let z = i .if1 .left in
+    let s = trial-sound _ _ _ _ _ _ _ _ .0 (sym e ∙ z) in
+    let h = back _ (replicate 16 0) (s .population .1) _ (g .heard-loads .kept .1 .1 .0) ∙ g .heard-loads .ensures in
+    (omega arith, trial-below _ _ _ _ _ _ _ _ _ e z _ _ h (l .lay .ensures .1) _ (l .lay .ensures .0)))
     (λ c. search needs)
     (λ c.
     let l = c .before .before .before .before in

@@ -1,4 +1,5 @@
 -- `layout::row_for` meets its contract. Assumes nothing.
+use mathlib.Core.Path.{_∙_}
 use borrow.Author.Needs.{needs}
 use borrow.Author.Tests.{lt-ltb, le-ltb}
 use Rattle.layout.specs.Layout.{rowFor}
@@ -11,6 +12,9 @@ row-for-spec =
     tie.close
     (tie.spec
     (λ c κs. search needs)
-    (λ c. rw (lt-ltb _ _ (c .before .if1 .taken)) (c .run-modulo .ensures))
     (λ c κs. search needs)
-    (λ c. rw (le-ltb _ _ (c .before .if1 .left)) (c .run .ensures)))
+    (λ c. c .low .ensures ∙ c .before .word-for .ensures)
+    (λ c κs. search needs)
+    (λ c. rw (lt-ltb _ _ (c .before .if2 .taken)) (c .run-modulo .ensures))
+    (λ c κs. search needs)
+    (λ c. rw (le-ltb _ _ (c .before .if2 .left)) (c .run .ensures)))

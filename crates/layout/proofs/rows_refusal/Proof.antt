@@ -16,5 +16,6 @@ rows-refusal-spec =
     (λ c κs. search needs)
     (λ c. search layout-checks)
     (λ c. search layout-checks)
+    (λ c κs. search needs)
     (λ c. search layout-checks)
     (λ c. search layout-checks))

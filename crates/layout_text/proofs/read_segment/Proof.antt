@@ -36,11 +36,11 @@ read-segment-spec =
     let r = v .before .before in
     let i = r .before .before in
     shards-refused _ _ _ (i .before .find .ensures) (i .if1 .left) (r .before .upto .ensures) (r .read-below .ensures) (v .r .given .1)
-    (o .before .after .ensures) (o .read-members .ensures) (c .before .no2 .given .1))
+    (o .before .after .ensures) (o .read-shards .ensures) (c .before .no2 .given .1))
     (λ c.
     let o = c .before .before .before in
     let v = o .before .before .before in
     let r = v .before .before in
     let i = r .before .before in
     segment-read _ _ _ (i .before .find .ensures) (i .if1 .left) (r .before .upto .ensures) (r .read-below .ensures) (v .r .given .1)
-    (o .before .after .ensures) (o .read-members .ensures) (c .before .m .given .1)))
+    (o .before .after .ensures) (o .read-shards .ensures) (c .before .m .given .1)))

@@ -3,7 +3,8 @@ use mathlib.Core.Path.{_≡_, refl}
 use Prim.Native.Nat.{_≤_, _-_}
 use native.Mathlib.Omega.{arith}
 use borrow.Author.Needs.{needs}
-use lib.ListN.{length, take, drop, length-set}
+use lib.ListN.{length, drop}
+use Rattle.rows.specs.FirstRows.{firstRows}
 use Rattle.numerals.specs.Text.{split}
 use Rattle.numerals.specs.Read.{readEach}
 use Rattle.numerals.specs.ReadLaws.{read-refused, read-last, read-more}
@@ -15,7 +16,7 @@ use Rattle.layout_text.proofs.read_segments.Tie as tie
 abbrev Inv-loop : tie.InvT-loop
 Inv-loop n total s words₀ p₀ words p =
     (p ≤ length s) × (length words ≡ length words₀)
-    × (readEach (segmentIn n total) (take n words₀) (split 47 s) ≡ readEach (segmentIn n total) (take n words) (split 47 (drop p s)))
+    × (readEach (segmentIn n total) (firstRows n words₀) (split 47 s) ≡ readEach (segmentIn n total) (firstRows n words) (split 47 (drop p s)))
 
 abbrev μ-loop : tie.MeasureT-loop
 μ-loop n total s words₀ p₀ words p = length s - p
@@ -35,27 +36,25 @@ read-segments-spec =
     let r = c .before .before .before in
     read-refused (segmentIn _ _) _ (r .before .before .loop .inv .2) (r .before .part .ensures) (row-refused _ _ _ (r .read-segment .ensures) _ (c .before .no .given .1)))
     (λ c. search needs)
-    (λ c. let h = row-below _ _ _ (c .before .before .before .read-segment .ensures) (c .before .r .given .1) in omega (arith, h))
-    (λ c. let h = row-below _ _ _ (c .before .before .before .before .read-segment .ensures) (c .before .before .r .given .1) in omega (arith, h))
-    (λ c κs. search needs)
-    (λ c. let h = row-below _ _ _ (c .before .before .before .before .before .read-segment .ensures) (c .before .before .before .r .given .1) in omega (arith, h))
-    (λ c. let h = row-below _ _ _ (c .before .before .before .before .before .read-segment .ensures) (c .before .before .before .r .given .1) in omega (arith, h))
+    (λ c κs. let h = row-below _ _ _ (c .before .before .before .before .read-segment .ensures) (c .before .before .r .given .1) in omega (arith, h))
+    (λ c. search needs)
     (λ c. search needs)
     (λ c.
-    let r = c .before .before .before .before .before .before in
-    simp length-set (r .before .before .loop .inv .1))
-    (λ c.
-    let k = c .before .before .before .before in
+    let u = c .before .before .before in
+    let k = u .before .before .before in
     let r = k .before .before in
-    let e = row-united _ _ _ (r .read-segment .ensures) (k .r .given .1) (r .before .before .loop .words) (c .before .union .ensures) in
-    read-last (segmentIn _ _) _ (r .before .before .loop .inv .2) (r .before .part .ensures) e (c .if1 .taken))
+    let l = r .before .before .loop in
+    let e = row-united _ _ _ (r .read-segment .ensures) (k .r .given .1) (l .words) (omega arith) (u .unite .ensures .1) (u .unite .ensures .0) in
+    read-last (segmentIn _ _) _ (l .inv .2) (r .before .part .ensures) e (c .if1 .taken))
     (λ c. search needs)
     (λ c. search needs)
     (λ c.
-    let k = c .before .before .before .before in
+    let u = c .before .before .before in
+    let k = u .before .before .before in
     let r = k .before .before in
-    let e = row-united _ _ _ (r .read-segment .ensures) (k .r .given .1) (r .before .before .loop .words) (c .before .union .ensures) in (
+    let l = r .before .before .loop in
+    let e = row-united _ _ _ (r .read-segment .ensures) (k .r .given .1) (l .words) (omega arith) (u .unite .ensures .1) (u .unite .ensures .0) in (
       search needs,
-      simp length-set (r .before .before .loop .inv .1),
-      read-more (segmentIn _ _) _ (r .before .before .loop .inv .2) (r .before .part .ensures) e (c .if1 .left),
+      search needs,
+      read-more (segmentIn _ _) _ (l .inv .2) (r .before .part .ensures) e (c .if1 .left),
     )))

@@ -12,5 +12,6 @@ table-refusal-spec =
     (tie.spec
     (λ c. search needs)
     (λ c. search checks)
+    (λ c κs. search needs)
     (λ c. search checks)
     (λ c. search checks))

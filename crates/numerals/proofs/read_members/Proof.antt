@@ -1,49 +1,15 @@
 -- `numerals::read_members` meets its contract. Assumes nothing.
-use mathlib.Core.Path.{_≡_, refl}
-use Prim.Native.Nat.{_≤_, _-_}
-use native.Mathlib.Omega.{arith}
 use borrow.Author.Needs.{needs}
-use lib.ListN.{length, drop}
-use Rattle.numerals.specs.Text.{split}
-use Rattle.numerals.specs.Read.{readEach}
-use Rattle.numerals.specs.ReadLaws.{read-refused, read-last, read-more}
-use Rattle.numerals.specs.Whole.{memberIn, membersOf}
-use Rattle.numerals.proofs.Scans.{member-refused, member-read, member-below}
+use Rattle.numerals.proofs.Scans.{mask-refused, mask-read}
 use Rattle.numerals.proofs.read_members.Statement.{statement}
 use Rattle.numerals.proofs.read_members.Tie as tie
 
-abbrev Inv-loop : tie.InvT-loop
-Inv-loop s trims limit m₀ p₀ m p = (p ≤ length s) × (membersOf trims limit s ≡ readEach (memberIn trims limit) m (split 44 (drop p s)))
-
-abbrev μ-loop : tie.MeasureT-loop
-μ-loop s trims limit m₀ p₀ m p = length s - p
-
 pub read-members-spec : {M : Type 1} → statement M
-unfolding membersOf
 read-members-spec =
     tie.close
     (tie.spec
-    Inv-loop
-    μ-loop
-    (λ c. (search needs, refl))
-    (λ c κs. search needs)
     (λ c κs. search needs)
     (λ c. search needs)
-    (λ c.
-    let r = c .before .before .before in
-    read-refused (memberIn _ _) _ (r .before .before .loop .inv .1) (r .before .part .ensures) (member-refused _ _ _ (r .read-member .ensures) _ (c .before .no .given .1)))
     (λ c. search needs)
-    (λ c κs. let h = member-below _ _ _ (c .before .before .before .read-member .ensures) (c .before .v .given .1) in omega (arith, h))
-    (λ c. search needs)
-    (λ c.
-    let k = c .before .before in
-    let r = k .before .before .before in
-    let e = member-read _ _ _ (r .read-member .ensures) (k .before .v .given .1) (r .before .before .loop .m) (c .before .with-bit .ensures) in
-    read-last (memberIn _ _) _ (r .before .before .loop .inv .1) (r .before .part .ensures) e (c .if1 .taken))
-    (λ c. search needs)
-    (λ c. search needs)
-    (λ c.
-    let k = c .before .before in
-    let r = k .before .before .before in
-    let e = member-read _ _ _ (r .read-member .ensures) (k .before .v .given .1) (r .before .before .loop .m) (c .before .with-bit .ensures) in
-    (search needs, read-more (memberIn _ _) _ (r .before .before .loop .inv .1) (r .before .part .ensures) e (c .if1 .left))))
+    (λ c. let r = c .before .before .before in mask-refused _ _ _ (r .read-shards .ensures) (c .before .no .given .1))
+    (λ c. let r = c .before .before .before in mask-read _ _ _ (r .read-shards .ensures) (r .before .before .pre) (c .before .row .given .1)))

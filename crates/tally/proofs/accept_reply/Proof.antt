@@ -58,6 +58,10 @@ use Rattle.tally.proofs.Tally.Laws as T′
 use Rattle.bitmap.specs.declared.ReplicaId.{ReplicaId}
 use Rattle.bitmap.proofs.ReplicaId as P
 use Rattle.bitmap.proofs.ReplicaId.Laws as P′
+use Rattle.rows.specs.declared.Row.{Row}
+use Rattle.rows.specs.Row.{rowOf}
+use Rattle.rows.proofs.Row as Q
+use Rattle.rows.proofs.Row.Laws as Q′
 use Rattle.tally.proofs.Answer as S
 use Rattle.tally.proofs.Answer.Laws as S′
 use Rattle.tally.proofs.Replied as R
@@ -85,7 +89,7 @@ stayed = (
       stay-dropped (plain (λ _. u64)) yes,
       (
         stay-dropped (plain (λ _. u64)) yes,
-        (stay-dropped (plain (λ _. u64)) yes, (stay-dropped (plain (λ _. u64)) yes, (stay-dropped (shrSliceOf (1 ∷ []) tt (plain (λ _. u64))) yes, tt))),
+        (stay-dropped (plain (λ _. u64)) yes, (stay-dropped (plain (λ _. Q.the-row)) yes, (stay-dropped (shrSliceOf (1 ∷ []) tt (plain (λ _. u64))) yes, tt))),
       ),
     ),
   ),
@@ -94,6 +98,9 @@ stayed = (
 -- a record's machine values, and what of each whoever holds a `Replied` knows
 abbrev vals : Tally → List Val
 vals = LL.vals T.the-type T′.the-laws
+
+abbrev rowv : Row → List Val
+rowv = LL.vals Q.the-type Q′.the-laws
 
 abbrev who : ReplicaId → List Val
 who = LL.vals P.the-type P′.the-laws
@@ -115,10 +122,10 @@ module _ {M : Type 1} (𝓤 : URA M) (H : Heap 𝓤) (A : Atoms 𝓤) (mem : Mem
   TakenContract = tripleOf 𝓤 H A taken.signature (taken.spec 𝓤 H A mem run)
 
 module _ {M : Type 1} (𝓤 : URA M) (H : Heap 𝓤) (A : Atoms 𝓤) (W : Given 𝓤 H A) (at-mem : Memory → SProp 𝓤) (run : Routine → Fun 𝓤) (κ κ′ : Lft) (q q′ : Share) (b o : ℕ) (γ : GName) (h : Tally)
-    (src : ReplicaId) (bal hi lo row : ℕ) (fl : RefT (List ℕ)) where
+    (src : ReplicaId) (bal hi lo : ℕ) (row : Row) (fl : RefT (List ℕ)) where
   -- the parameters past the first, and their machine values
   abbrev Rest : Type 0
-  Rest = ReplicaId × (ℕ × (ℕ × (ℕ × (ℕ × (RefT (List ℕ) × Unit {0})))))
+  Rest = ReplicaId × (ℕ × (ℕ × (ℕ × (Row × (RefT (List ℕ) × Unit {0})))))
 
   abbrev rest : Rest
   rest = (src, (bal, (hi, (lo, (row, (fl, tt))))))
@@ -130,7 +137,7 @@ module _ {M : Type 1} (𝓤 : URA M) (H : Heap 𝓤) (A : Atoms 𝓤) (W : Given
   Restv = List Val × (List Val × (List Val × (List Val × (List Val × (List Val × Unit {0})))))
 
   abbrev restv : Restv
-  restv = (who src, (vint w64 bal ∷ [], (vint w64 hi ∷ [], (vint w64 lo ∷ [], (vint w64 row ∷ [], (f ∷ [], tt))))))
+  restv = (who src, (vint w64 bal ∷ [], (vint w64 hi ∷ [], (vint w64 lo ∷ [], (rowv row, (f ∷ [], tt))))))
 
   abbrev x : RefT Tally × Rest
   x = (record { ptr = (b, o); name = γ; now = h }, rest)
@@ -140,7 +147,7 @@ module _ {M : Type 1} (𝓤 : URA M) (H : Heap 𝓤) (A : Atoms 𝓤) (W : Given
 
   -- what the contracts of `reply` and of `accept_reply` say: of the answer, and of the tally left
   abbrev Said : Answer → Tally → Type 0
-  Said a z = (answer a ≡ replyOf h (told (src .0) bal hi lo row (fl .now))) × (z ≡ tallyAfter h (told (src .0) bal hi lo row (fl .now)))
+  Said a z = (answer a ≡ replyOf h (told (src .0) bal hi lo (rowOf row) (fl .now))) × (z ≡ tallyAfter h (told (src .0) bal hi lo (rowOf row) (fl .now)))
 
   abbrev Found : Replied → Type 0
   Found r = Said (r .answer) (r .tally)
@@ -151,7 +158,7 @@ module _ {M : Type 1} (𝓤 : URA M) (H : Heap 𝓤) (A : Atoms 𝓤) (W : Given
 
   -- a refused reply leaves the tally as it was
   said-kept : (r : Replied) (y : Bool) → Found r → Tells (r .answer) y → T (not y) → Said (r .answer) h
-  said-kept r y e c z = (e .0, sym (refused-leaves h (told (src .0) bal hi lo row (fl .now)) (sym (ap isTaken (e .0)) ∙ sym c ∙ off y z)))
+  said-kept r y e c z = (e .0, sym (refused-leaves h (told (src .0) bal hi lo (rowOf row) (fl .now)) (sym (ap isTaken (e .0)) ∙ sym c ∙ off y z)))
 
   abbrev Post : Val → SProp 𝓤
   Post = walkOf 𝓤 H A accept.ended stayed (accept.clauses 𝓤 H A at-mem run) .post (((κ, (κ′, tt)), (q, (q′, tt)), tt, x, at), tt)
@@ -161,7 +168,7 @@ module _ {M : Type 1} (𝓤 : URA M) (H : Heap 𝓤) (A : Atoms 𝓤) (W : Given
   to = (((κ′, tt), (q′, tt), tt, (h, rest), (vals h, restv)), tt)
 
   asked : ent 𝓤 (onEntry 𝓤 H A reply.signature (κ′, tt) (q′, tt) (h, rest) (vals h, restv)) (ReplyContract 𝓤 H A at-mem run .pre to)
-  asked = qed W ((‵ (flft κ′ q′) ⊛ ‵ ftrue) ∷ ‵ (owns (T.the-row ∷ P.the-row ∷ u64 ∷ u64 ∷ u64 ∷ u64 ∷ ShrSlice (named 0) κ′ u64 ∷ []) (h, rest) (vals h, restv)) ∷ []) ∵ join ! $ frame ! $ done !
+  asked = qed W ((‵ (flft κ′ q′) ⊛ ‵ ftrue) ∷ ‵ (owns (T.the-row ∷ P.the-row ∷ u64 ∷ u64 ∷ u64 ∷ Q.the-row ∷ ShrSlice (named 0) κ′ u64 ∷ []) (h, rest) (vals h, restv)) ∷ []) ∵ join ! $ frame ! $ done !
 
   -- of `reply`'s `ensured`, the clause alone: it has no `&mut`, so what is said of last values is dropped
   said : (r : Replied) → ent 𝓤 (ensured 𝓤 H A reply.ended (reply.clauses 𝓤 H A at-mem run) (κ′, tt) (h, rest) tt r) (fact 𝓤 (Found r))
@@ -190,19 +197,19 @@ module _ {M : Type 1} (𝓤 : URA M) (H : Heap 𝓤) (A : Atoms 𝓤) (W : Given
   -- the locals, for the code after the branch
   abbrev E : ℕ → ℕ → ℕ → ℕ → ℕ → ℕ → ℕ → ℕ → ℕ → ℕ → ℕ → Env 𝓤 H
   E l₀ l₁ l₂ l₃ l₄ l₅ l₆ l₇ l₈ l₉ l₁₀ =
-      (S′.mir, l₀) ∷ (tyRef (named 0) mut (pointee (T.the-row .written)), l₁) ∷ (P′.mir, l₂) ∷ (tyInt w64, l₃) ∷ (tyInt w64, l₄) ∷ (tyInt w64, l₅) ∷ (tyInt w64, l₆)
+      (S′.mir, l₀) ∷ (tyRef (named 0) mut (pointee (T.the-row .written)), l₁) ∷ (P′.mir, l₂) ∷ (tyInt w64, l₃) ∷ (tyInt w64, l₄) ∷ (tyInt w64, l₅) ∷ (Q′.mir, l₆)
       ∷ (sliceTy (tyRef (named 1) imm (tyInt w64)), l₇) ∷ (R′.mir, l₈) ∷ (T′.mir, l₉) ∷ (tyBool, l₁₀) ∷ []
 
   module _ (C : Calls 𝓤 H) (Λ : Loops 𝓤 H) (fm : FmC 𝓤 H (W .laws) C) (known : Triple 𝓤 (C #tally·reply) (ReplyContract 𝓤 H A at-mem run))
       (known-taken : Triple 𝓤 (C #tally·is_taken) (TakenContract 𝓤 H A at-mem run)) where
-    walk : Is P.the-row src (who src) → bal < 2 ^ 64 → hi < 2 ^ 64 → lo < 2 ^ 64 → row < 2 ^ 64 → length (fl .now) < 2 ^ 64
-        → ent 𝓤 (onEntry 𝓤 H A accept.signature (κ, (κ′, tt)) (q, (q′, tt)) x at) (WpFn 𝓤 H C Λ code.function (vptr b o ∷ only (who src) ∷ vint w64 bal ∷ vint w64 hi ∷ vint w64 lo ∷ vint w64 row ∷ f ∷ []) Post)
+    walk : Is P.the-row src (who src) → bal < 2 ^ 64 → hi < 2 ^ 64 → lo < 2 ^ 64 → Is Q.the-row row (rowv row) → length (fl .now) < 2 ^ 64
+        → ent 𝓤 (onEntry 𝓤 H A accept.signature (κ, (κ′, tt)) (q, (q′, tt)) x at) (WpFn 𝓤 H C Λ code.function (vptr b o ∷ only (who src) ∷ vint w64 bal ∷ vint w64 hi ∷ vint w64 lo ∷ only (rowv row) ∷ f ∷ []) Post)
     walk g₂ g₃ g₄ g₅ g₆ g₇ =
-        qed W ((‵ (flft κ q) ⊛ ‵ (flft κ′ q′) ⊛ ‵ ftrue) ∷ ‵ (owns (MutRef (named 0) κ T.the-row ∷ P.the-row ∷ u64 ∷ u64 ∷ u64 ∷ u64 ∷ ShrSlice (named 1) κ′ u64 ∷ []) x at) ∷ []) ∵
-        enter ! C Λ code.function (vptr b o ∷ only (who src) ∷ vint w64 bal ∷ vint w64 hi ∷ vint w64 lo ∷ vint w64 row ∷ f ∷ []) _ $
+        qed W ((‵ (flft κ q) ⊛ ‵ (flft κ′ q′) ⊛ ‵ ftrue) ∷ ‵ (owns (MutRef (named 0) κ T.the-row ∷ P.the-row ∷ u64 ∷ u64 ∷ u64 ∷ Q.the-row ∷ ShrSlice (named 1) κ′ u64 ∷ []) x at) ∷ []) ∵
+        enter ! C Λ code.function (vptr b o ∷ only (who src) ∷ vint w64 bal ∷ vint w64 hi ∷ vint w64 lo ∷ only (rowv row) ∷ f ∷ []) _ $
         alloc1 ! (λ l₀. alloc1 ! (λ l₁. alloc1 ! (λ l₂. alloc1 ! (λ l₃. alloc1 ! (λ l₄. alloc1 ! (λ l₅. alloc1 ! (λ l₆. alloc1 ! (λ l₇. alloc1 ! (λ l₈. alloc1 ! (λ l₉. alloc1 ! (λ l₁₀. alloc0 ! $ params1 ! $
         pass1 ! (init ! 18 refl (tt, tt)) $ pass1 ! (init ! 16 refl (LL.lawful P.the-type P′.the-laws 𝓤 H A W .typed src _ g₂ .0)) $ pass1 ! (init ! 14 refl (tt, record { fits = g₃ })) $ pass1 ! (init ! 12 refl (tt, record { fits = g₄ })) $
-        pass1 ! (init ! 10 refl (tt, record { fits = g₅ })) $ pass1 ! (init ! 8 refl (tt, record { fits = g₆ })) $ pass1 ! (init ! 6 refl (tt, (tt, (record { fits = g₇ }, tt)))) $ pass0 ! $
+        pass1 ! (init ! 10 refl (tt, record { fits = g₅ })) $ pass1 ! (init ! 8 refl (LL.lawful Q.the-type Q′.the-laws 𝓤 H A W .typed row _ g₆ .0)) $ pass1 ! (init ! 6 refl (tt, (tt, (record { fits = g₇ }, tt)))) $ pass0 ! $
         -- the borrow is opened
         move ! (23 ∷ []) $ fsplit ! $ fsplit3 ! $ drop ! $ move ! (25 ∷ []) $ split ! $ move ! (2 ∷ 3 ∷ 0 ∷ []) $
         opens ! tt T.the-row {h = h} b o (λ vs. spelt ! T.the-row (Is T.the-row) (shows 𝓤 H A T.the-row) vals (LL.tells T.the-type T′.the-laws) fullShare h vs b o $
@@ -251,11 +258,11 @@ module _ {M : Type 1} (𝓤 : URA M) (H : Heap 𝓤) (A : Atoms 𝓤) (W : Given
 module _ {M : Type 1} (𝓤 : URA M) (H : Heap 𝓤) (A : Atoms 𝓤) (W : Given 𝓤 H A) (mem : Memory → SProp 𝓤) (run : Routine → Fun 𝓤) where
   accept-walks : (C : Calls 𝓤 H) (Λ : Loops 𝓤 H) → FmC 𝓤 H (W .laws) C → Triple 𝓤 (C #tally·reply) (ReplyContract 𝓤 H A mem run) → Triple 𝓤 (C #tally·is_taken) (TakenContract 𝓤 H A mem run) → Walks 𝓤 H A accept.ended stayed (WpFn 𝓤 H C Λ code.function) (accept.clauses 𝓤 H A mem run)
   accept-walks C Λ fm known known-taken = walked 𝓤 H A accept.ended stayed (accept.clauses 𝓤 H A mem run) (WpFn 𝓤 H C Λ code.function)
-      (λ κs. (ptr-vals, (who, (uint-vals w64, (uint-vals w64, (uint-vals w64, (uint-vals w64, (slice-vals, tt))))))))
-      (λ κs. (mut-tells (named 0) (κs .0) T.the-row, (LL.tells P.the-type P′.the-laws, (uint-tells w64, (uint-tells w64, (uint-tells w64, (uint-tells w64, (shr-slice-tells (named 1) (κs .1 .0) u64, tt))))))))
+      (λ κs. (ptr-vals, (who, (uint-vals w64, (uint-vals w64, (uint-vals w64, (rowv, (slice-vals, tt))))))))
+      (λ κs. (mut-tells (named 0) (κs .0) T.the-row, (LL.tells P.the-type P′.the-laws, (uint-tells w64, (uint-tells w64, (uint-tells w64, (LL.tells Q.the-type Q′.the-laws, (shr-slice-tells (named 1) (κs .1 .0) u64, tt))))))))
       (λ κs qs bounds a g are. via 𝓤 _ (fst∗ 𝓤 _ (emp 𝓤)) (walk 𝓤 H A W mem run (κs .0) (κs .1 .0) (qs .0) (qs .1 .0) (a .0 .ptr .0) (a .0 .ptr .1) (a .0 .name) (a .0 .now)
       (a .1 .0) (a .1 .1 .0) (a .1 .1 .1 .0) (a .1 .1 .1 .1 .0) (a .1 .1 .1 .1 .1 .0) (a .1 .1 .1 .1 .1 .1 .0) C Λ fm known known-taken
-      (are .1 .0) (are .1 .1 .0 .1) (are .1 .1 .1 .0 .1) (are .1 .1 .1 .1 .0 .1) (are .1 .1 .1 .1 .1 .0 .1) (are .1 .1 .1 .1 .1 .1 .0 .0 .1 .0)))
+      (are .1 .0) (are .1 .1 .0 .1) (are .1 .1 .1 .0 .1) (are .1 .1 .1 .1 .0 .1) (are .1 .1 .1 .1 .1 .0) (are .1 .1 .1 .1 .1 .1 .0 .0 .1 .0)))
 
   goes : AllGo 𝓤 H A W 2 (accept.signature .params) (accept.ended .kept) stayed
   goes = (
@@ -266,7 +273,7 @@ module _ {M : Type 1} (𝓤 : URA M) (H : Heap 𝓤) (A : Atoms 𝓤) (W : Given
         goes-dropped 𝓤 H A W 2 (plain (λ _. u64)) yes (λ κs x f. refl),
         (
           goes-dropped 𝓤 H A W 2 (plain (λ _. u64)) yes (λ κs x f. refl),
-          (goes-dropped 𝓤 H A W 2 (plain (λ _. u64)) yes (λ κs x f. refl), (goes-dropped 𝓤 H A W 2 (plain (λ _. u64)) yes (λ κs x f. refl), (goes-dropped 𝓤 H A W 2 (shrSliceOf (1 ∷ []) tt (plain (λ _. u64))) yes (λ κs x f. refl), tt))),
+          (goes-dropped 𝓤 H A W 2 (plain (λ _. u64)) yes (λ κs x f. refl), (goes-dropped 𝓤 H A W 2 (plain (λ _. Q.the-row)) yes (λ κs x f. refl), (goes-dropped 𝓤 H A W 2 (shrSliceOf (1 ∷ []) tt (plain (λ _. u64))) yes (λ κs x f. refl), tt))),
         ),
       ),
     ),

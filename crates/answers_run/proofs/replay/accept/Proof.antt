@@ -54,6 +54,10 @@ use Rattle.c_types.proofs.Tally as T
 use Rattle.c_types.proofs.Tally.Laws as T′
 use Rattle.c_types.proofs.Reply as S
 use Rattle.c_types.proofs.Reply.Laws as S′
+use Rattle.rows.specs.declared.Row.{Row}
+use Rattle.rows.specs.Row.{rowOf}
+use Rattle.rows.proofs.Row as Q
+use Rattle.rows.proofs.Row.Laws as Q′
 use Rattle.answers_run.proofs.replay.Accepted as R
 use Rattle.answers_run.proofs.replay.Accepted.Laws as R′
 use Rattle.callboard.proofs.callboard_accept_reply as callee
@@ -74,13 +78,16 @@ stayed = (
       stay-dropped (plain (λ _. u64)) yes,
       (
         stay-dropped (plain (λ _. u64)) yes,
-        (stay-dropped (plain (λ _. u64)) yes, (stay-dropped (plain (λ _. u64)) yes, (stay-dropped (shrSliceOf (0 ∷ []) tt (plain (λ _. u64))) yes, tt))),
+        (stay-dropped (plain (λ _. u64)) yes, (stay-dropped (plain (λ _. Q.the-row)) yes, (stay-dropped (shrSliceOf (0 ∷ []) tt (plain (λ _. u64))) yes, tt))),
       ),
     ),
   ),
 )
 
 -- a record's machine values
+abbrev rowv : Row → List Val
+rowv = LL.vals Q.the-type Q′.the-laws
+
 abbrev vals : Tally → List Val
 vals = LL.vals T.the-type T′.the-laws
 
@@ -111,10 +118,10 @@ module _ {M : Type 1} (𝓤 : URA M) (H : Heap 𝓤) (A : Atoms 𝓤) (W : Given
       fpack ! (List Val) (λ vs. fsep (cellAt fullShare (T.the-row .mir) vs b o) (T.the-row .own h vs)) (vals h) $ done !
 
 module _ {M : Type 1} (𝓤 : URA M) (H : Heap 𝓤) (A : Atoms 𝓤) (W : Given 𝓤 H A) (at-mem : Memory → SProp 𝓤) (run : Routine → Fun 𝓤) (κ : Lft) (q : Share) (h : Tally)
-    (src bal hi lo row : ℕ) (fl : RefT (List ℕ)) where
+    (src bal hi lo : ℕ) (row : Row) (fl : RefT (List ℕ)) where
   -- the parameters past the first, and their machine values
   abbrev Rest : Type 0
-  Rest = ℕ × (ℕ × (ℕ × (ℕ × (ℕ × (RefT (List ℕ) × Unit {0})))))
+  Rest = ℕ × (ℕ × (ℕ × (ℕ × (Row × (RefT (List ℕ) × Unit {0})))))
 
   abbrev rest : Rest
   rest = (src, (bal, (hi, (lo, (row, (fl, tt))))))
@@ -126,7 +133,7 @@ module _ {M : Type 1} (𝓤 : URA M) (H : Heap 𝓤) (A : Atoms 𝓤) (W : Given
   Restv = List Val × (List Val × (List Val × (List Val × (List Val × (List Val × Unit {0})))))
 
   abbrev restv : Restv
-  restv = (vint w64 src ∷ [], (vint w64 bal ∷ [], (vint w64 hi ∷ [], (vint w64 lo ∷ [], (vint w64 row ∷ [], (f ∷ [], tt))))))
+  restv = (vint w64 src ∷ [], (vint w64 bal ∷ [], (vint w64 hi ∷ [], (vint w64 lo ∷ [], (rowv row, (f ∷ [], tt))))))
 
   abbrev x : Tally × Rest
   x = (h, rest)
@@ -144,7 +151,7 @@ module _ {M : Type 1} (𝓤 : URA M) (H : Heap 𝓤) (A : Atoms 𝓤) (W : Given
 
   -- what the contracts of `callboard_accept_reply` and of `accept` say
   abbrev Said : Reply → Tally → Type 0
-  Said r z = (r ≡ answerThrough h (told src bal hi lo row (fl .now))) × (z ≡ leftThrough h (told src bal hi lo row (fl .now)))
+  Said r z = (r ≡ answerThrough h (told src bal hi lo (rowOf row) (fl .now))) × (z ≡ leftThrough h (told src bal hi lo (rowOf row) (fl .now)))
 
   abbrev Post : Val → SProp 𝓤
   Post = walkOf 𝓤 H A accept.ended stayed (accept.clauses 𝓤 H A at-mem run) .post (((κ, tt), (q, tt), tt, x, at), tt)
@@ -155,7 +162,7 @@ module _ {M : Type 1} (𝓤 : URA M) (H : Heap 𝓤) (A : Atoms 𝓤) (W : Given
 
   asked : (ν l : ℕ) (δ : GName) → ent 𝓤 (onEntry 𝓤 H A callee.signature (ν ∷ [], (κ, tt)) (fullShare, (q, tt)) (lent l δ, rest) (vptr l 0 ∷ [], restv)) (CalleeContract 𝓤 H A at-mem run .pre (to ν l δ))
   asked ν l δ =
-      qed W ((‵ (flft (ν ∷ []) fullShare) ⊛ ‵ (flft κ q) ⊛ ‵ ftrue) ∷ ‵ (owns (MutRef (named 0) (ν ∷ []) T.the-row ∷ usize ∷ u64 ∷ u64 ∷ u64 ∷ u64 ∷ ShrSlice (named 1) κ u64 ∷ []) (lent l δ, rest) (vptr l 0 ∷ [], restv)) ∷ []) ∵
+      qed W ((‵ (flft (ν ∷ []) fullShare) ⊛ ‵ (flft κ q) ⊛ ‵ ftrue) ∷ ‵ (owns (MutRef (named 0) (ν ∷ []) T.the-row ∷ usize ∷ u64 ∷ u64 ∷ u64 ∷ Q.the-row ∷ ShrSlice (named 1) κ u64 ∷ []) (lent l δ, rest) (vptr l 0 ∷ [], restv)) ∷ []) ∵
       join ! $ frame ! $ done !
 
   exits : (r : Reply) (z : Tally) → Said r z → Is R.the-row (made r z) (made-of (made r z)) → ent 𝓤 (⋆ 𝓤 H A ((‵ (flft κ q) ⊛ ‵ ftrue) ∷ [])) (Post (only (made-of (made r z))))
@@ -167,15 +174,15 @@ module _ {M : Type 1} (𝓤 : URA M) (H : Heap 𝓤) (A : Atoms 𝓤) (W : Given
       owned ! R.the-row (Is R.the-row) (LL.makes R.the-type R′.the-plain 𝓤 H A) (made r z) _ is $ move ! (1 ∷ 0 ∷ []) $ done !
 
   module _ (C : Calls 𝓤 H) (Λ : Loops 𝓤 H) (fm : FmC 𝓤 H (W .laws) C) (known : Triple 𝓤 (C #callboard·accept) (CalleeContract 𝓤 H A at-mem run)) where
-    walk : Is T.the-row h (vals h) → src < 2 ^ 64 → bal < 2 ^ 64 → hi < 2 ^ 64 → lo < 2 ^ 64 → row < 2 ^ 64 → length (fl .now) < 2 ^ 64
-        → ent 𝓤 (onEntry 𝓤 H A accept.signature (κ, tt) (q, tt) x at) (WpFn 𝓤 H C Λ code.function (only (vals h) ∷ vint w64 src ∷ vint w64 bal ∷ vint w64 hi ∷ vint w64 lo ∷ vint w64 row ∷ f ∷ []) Post)
+    walk : Is T.the-row h (vals h) → src < 2 ^ 64 → bal < 2 ^ 64 → hi < 2 ^ 64 → lo < 2 ^ 64 → Is Q.the-row row (rowv row) → length (fl .now) < 2 ^ 64
+        → ent 𝓤 (onEntry 𝓤 H A accept.signature (κ, tt) (q, tt) x at) (WpFn 𝓤 H C Λ code.function (only (vals h) ∷ vint w64 src ∷ vint w64 bal ∷ vint w64 hi ∷ vint w64 lo ∷ only (rowv row) ∷ f ∷ []) Post)
     unfolding partOf
     walk g₁ g₂ g₃ g₄ g₅ g₆ g₇ =
-        qed W ((‵ (flft κ q) ⊛ ‵ ftrue) ∷ ‵ (owns (T.the-row ∷ usize ∷ u64 ∷ u64 ∷ u64 ∷ u64 ∷ ShrSlice (named 0) κ u64 ∷ []) x at) ∷ []) ∵
-        enter ! C Λ code.function (only (vals h) ∷ vint w64 src ∷ vint w64 bal ∷ vint w64 hi ∷ vint w64 lo ∷ vint w64 row ∷ f ∷ []) _ $
+        qed W ((‵ (flft κ q) ⊛ ‵ ftrue) ∷ ‵ (owns (T.the-row ∷ usize ∷ u64 ∷ u64 ∷ u64 ∷ Q.the-row ∷ ShrSlice (named 0) κ u64 ∷ []) x at) ∷ []) ∵
+        enter ! C Λ code.function (only (vals h) ∷ vint w64 src ∷ vint w64 bal ∷ vint w64 hi ∷ vint w64 lo ∷ only (rowv row) ∷ f ∷ []) _ $
         alloc1 ! (λ l₀. alloc1 ! (λ l₁. alloc1 ! (λ l₂. alloc1 ! (λ l₃. alloc1 ! (λ l₄. alloc1 ! (λ l₅. alloc1 ! (λ l₆. alloc1 ! (λ l₇. alloc1 ! (λ l₈. alloc1 ! (λ l₉. alloc1 ! (λ l₁₀. alloc1 ! (λ l₁₁. alloc0 ! $ params1 ! $
         pass1 ! (init ! 20 refl (LL.lawful T.the-type T′.the-laws 𝓤 H A W .typed h _ g₁ .0)) $ pass1 ! (init ! 18 refl (tt, record { fits = g₂ })) $ pass1 ! (init ! 16 refl (tt, record { fits = g₃ })) $
-        pass1 ! (init ! 14 refl (tt, record { fits = g₄ })) $ pass1 ! (init ! 12 refl (tt, record { fits = g₅ })) $ pass1 ! (init ! 10 refl (tt, record { fits = g₆ })) $ pass1 ! (init ! 8 refl (tt, (tt, (record { fits = g₇ }, tt)))) $ pass0 ! $
+        pass1 ! (init ! 14 refl (tt, record { fits = g₄ })) $ pass1 ! (init ! 12 refl (tt, record { fits = g₅ })) $ pass1 ! (init ! 10 refl (LL.lawful Q.the-type Q′.the-laws 𝓤 H A W .typed row _ g₆ .0)) $ pass1 ! (init ! 8 refl (tt, (tt, (record { fits = g₇ }, tt)))) $ pass0 ! $
         -- [_11 (0); …; _10 (2); …; _9 (4); …; _8 (6); …; _7 (8); …; _1 (20); …; _0 (22); …; the token (24); what the parameters own (25)]
         assigns ! (of-opd ! (load ! (from ! (stop !)) (look ! 20 refl))) (from ! (stop !)) (init ! 6 refl (LL.lawful T.the-type T′.the-laws 𝓤 H A W .typed h _ g₁ .0)) $
         assigns ! (addr ! (from ! (stop !))) (from ! (stop !)) (init ! 2 refl (tt, tt)) $
@@ -210,11 +217,11 @@ module _ {M : Type 1} (𝓤 : URA M) (H : Heap 𝓤) (A : Atoms 𝓤) (W : Given
 module _ {M : Type 1} (𝓤 : URA M) (H : Heap 𝓤) (A : Atoms 𝓤) (W : Given 𝓤 H A) (mem : Memory → SProp 𝓤) (run : Routine → Fun 𝓤) where
   accept-walks : (C : Calls 𝓤 H) (Λ : Loops 𝓤 H) → FmC 𝓤 H (W .laws) C → Triple 𝓤 (C #callboard·accept) (CalleeContract 𝓤 H A mem run) → Walks 𝓤 H A accept.ended stayed (WpFn 𝓤 H C Λ code.function) (accept.clauses 𝓤 H A mem run)
   accept-walks C Λ fm known = walked 𝓤 H A accept.ended stayed (accept.clauses 𝓤 H A mem run) (WpFn 𝓤 H C Λ code.function)
-      (λ κs. (vals, (uint-vals w64, (uint-vals w64, (uint-vals w64, (uint-vals w64, (uint-vals w64, (slice-vals, tt))))))))
-      (λ κs. (LL.tells T.the-type T′.the-laws, (uint-tells w64, (uint-tells w64, (uint-tells w64, (uint-tells w64, (uint-tells w64, (shr-slice-tells (named 0) (κs .0) u64, tt))))))))
+      (λ κs. (vals, (uint-vals w64, (uint-vals w64, (uint-vals w64, (uint-vals w64, (rowv, (slice-vals, tt))))))))
+      (λ κs. (LL.tells T.the-type T′.the-laws, (uint-tells w64, (uint-tells w64, (uint-tells w64, (uint-tells w64, (LL.tells Q.the-type Q′.the-laws, (shr-slice-tells (named 0) (κs .0) u64, tt))))))))
       (λ κs qs bounds a g are. via 𝓤 _ (fst∗ 𝓤 _ (emp 𝓤)) (walk 𝓤 H A W mem run (κs .0) (qs .0) (a .0)
       (a .1 .0) (a .1 .1 .0) (a .1 .1 .1 .0) (a .1 .1 .1 .1 .0) (a .1 .1 .1 .1 .1 .0) (a .1 .1 .1 .1 .1 .1 .0) C Λ fm known
-      (are .0) (are .1 .0 .1) (are .1 .1 .0 .1) (are .1 .1 .1 .0 .1) (are .1 .1 .1 .1 .0 .1) (are .1 .1 .1 .1 .1 .0 .1) (are .1 .1 .1 .1 .1 .1 .0 .0 .1 .0)))
+      (are .0) (are .1 .0 .1) (are .1 .1 .0 .1) (are .1 .1 .1 .0 .1) (are .1 .1 .1 .1 .0 .1) (are .1 .1 .1 .1 .1 .0) (are .1 .1 .1 .1 .1 .1 .0 .0 .1 .0)))
 
   goes : AllGo 𝓤 H A W 1 (accept.signature .params) (accept.ended .kept) stayed
   goes = (
@@ -225,7 +232,7 @@ module _ {M : Type 1} (𝓤 : URA M) (H : Heap 𝓤) (A : Atoms 𝓤) (W : Given
         goes-dropped 𝓤 H A W 1 (plain (λ _. u64)) yes (λ κs x f. refl),
         (
           goes-dropped 𝓤 H A W 1 (plain (λ _. u64)) yes (λ κs x f. refl),
-          (goes-dropped 𝓤 H A W 1 (plain (λ _. u64)) yes (λ κs x f. refl), (goes-dropped 𝓤 H A W 1 (plain (λ _. u64)) yes (λ κs x f. refl), (goes-dropped 𝓤 H A W 1 (shrSliceOf (0 ∷ []) tt (plain (λ _. u64))) yes (λ κs x f. refl), tt))),
+          (goes-dropped 𝓤 H A W 1 (plain (λ _. u64)) yes (λ κs x f. refl), (goes-dropped 𝓤 H A W 1 (plain (λ _. Q.the-row)) yes (λ κs x f. refl), (goes-dropped 𝓤 H A W 1 (shrSliceOf (0 ∷ []) tt (plain (λ _. u64))) yes (λ κs x f. refl), tt))),
         ),
       ),
     ),

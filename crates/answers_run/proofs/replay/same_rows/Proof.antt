@@ -5,10 +5,10 @@ use Rattle.answers_run.proofs.replay.same_rows.Statement.{statement}
 use Rattle.answers_run.proofs.replay.same_rows.Tie as tie
 
 abbrev Inv-loop : tie.InvT-loop
-Inv-loop n owed rows i₀ i = i ≤ 16
+Inv-loop n owed rows i₀ i = i ≤ 64
 
 abbrev μ-loop : tie.MeasureT-loop
-μ-loop n owed rows i₀ i = 16 - i
+μ-loop n owed rows i₀ i = 64 - i
 
 pub same-rows-spec : {M : Type 1} → statement M
 same-rows-spec =

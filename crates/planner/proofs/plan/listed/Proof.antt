@@ -1,5 +1,6 @@
 -- `planner::plan::listed` is safe and ends. Assumes nothing.
 use borrow.Author.Needs.{needs}
+use native.Mathlib.Omega.{arith}
 use Rattle.lists.proofs.Lent.{lent}
 use Rattle.planner.proofs.plan.listed.Statement.{statement}
 use Rattle.planner.proofs.plan.listed.Tie as tie
@@ -10,13 +11,14 @@ listed-spec =
     (tie.spec
     (λ c. search needs)
     (λ c. search needs)
+    (λ c. search needs)
     (λ c. search (lent, needs))
     (λ c κs. search needs)
     (λ c κs. search needs)
     (λ c. search needs)
     (λ c. search (lent, needs))
     (λ c. search needs)
-    (λ c. search (lent, needs))
+    (λ c. lent _ _ (omega arith))
     (λ c κs. search needs)
     (λ c. search needs)
     (λ c. search needs))
