@@ -1,4 +1,5 @@
-// The balanced policy: the fewest shards a replica may hold under the peers now alive (min_shards_per_replica), and the assignment that the models favour
+// The balanced policy: the fewest shards a replica may hold under the peers now alive (min_shards_per_replica), and the assignment that the
+// models favour
 // (pick_assignment_policy), as a choice and as the rows that it stands for.
 ghost use mathlib.Core.Path.{_≡_};
 ghost use Prim.Native.Nat.{_+_, _*_, _%_, _≤_, _<_, _^_, max};
@@ -36,7 +37,8 @@ pub fn min_shards_per_replica(n: usize, f: usize, d: usize, majority: usize, ali
     Floor::Shards(floor_of(f, d, majority, bitmap::count(alive)))
 }
 
-// Picks the assignment for a value of `size` bytes and the peers now alive: the initial layout, or a count of the balanced table, which has n rows for each
+// Picks the assignment for a value of `size` bytes and the peers now alive: the initial layout, or a count of the balanced table, which has
+// n rows for each
 // count from d / majority to d, or nothing. A row has four words.
 pub fn pick_assignment_policy(
     n: usize,
@@ -289,7 +291,8 @@ fn larger(a: usize, b: usize) -> usize
     if a <= b { b } else { a }
 }
 
-// The fewest shards a replica: with many replicas alive any assignment works, with too few full copies are the most careful. A part: the numbers have been
+// The fewest shards a replica: with many replicas alive any assignment works, with too few full copies are the most careful. A part: the
+// numbers have been
 // tested.
 fn floor_of(f: usize, d: usize, majority: usize, alive: usize) -> usize
     requires { ⌜ (f ≤ 16) × (d ≤ mostShards) × (0 < majority) × (majority ≤ 16) ⌝ }
@@ -303,7 +306,8 @@ fn floor_of(f: usize, d: usize, majority: usize, alive: usize) -> usize
     if shards <= d { shards } else { d }
 }
 
-// The shards a replica that the models favour; without adaptivity, those of the first row of the initial layout. A part: the numbers have been tested.
+// The shards a replica that the models favour; without adaptivity, those of the first row of the initial layout. A part: the numbers have
+// been tested.
 fn best_shards(
     n: usize,
     f: usize,

@@ -1,4 +1,5 @@
-// Replays the stored answers of the Rust: a file for each entry. Prints how many lines were answered as they say, or the first that was not.
+// Replays the stored answers of the Rust: a file for each entry. Prints how many lines were answered as they say, or the first that was
+// not.
 mod replay; // replay.rt: whether an entry answers a line as it says
 
 fn main() {

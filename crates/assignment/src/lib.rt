@@ -30,7 +30,8 @@ pub enum Pick {
     Planned { time: f64, width: usize },
 }
 
-// Picks the assignment predicted to commit the soonest for a value of `size` bytes under d data shards and the total. Commits need replies from at least
+// Picks the assignment predicted to commit the soonest for a value of `size` bytes under d data shards and the total. Commits need replies
+// from at least
 // a quorum that pass the commit rule.
 pub fn pick_assignment(
     n: usize,

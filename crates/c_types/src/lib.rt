@@ -1,4 +1,5 @@
-// The structs that cross the C interface, and the values of the entries that they stand for. A flag is a number: 0 is false, anything else true.
+// The structs that cross the C interface, and the values of the entries that they stand for. A flag is a number: 0 is false, anything else
+// true.
 ghost use mathlib.Core.Path.{_≡_};
 ghost use mathlib.Core.List.{[]};
 ghost use Prim.Native.Nat.{_<_};

@@ -16,7 +16,8 @@ use bitmap::ReplicaId;
 use floats::Found;
 use layout::TotalShards;
 
-// The first candidate in total order that commits. One pass serves: a candidate is tested only if it stands before the best so far and is no repeat. A part:
+// The first candidate in total order that commits. One pass serves: a candidate is tested only if it stands before the best so far and is
+// no repeat. A part:
 // the numbers have been tested, and the table is that of n replicas.
 pub fn first_time(
     n: usize,
@@ -41,7 +42,8 @@ pub fn first_time(
     best
 }
 
-// Whether the time stands also one place before, or at the same load one or two replicas before. Our own times are all equal, and so are those of equal peers.
+// Whether the time stands also one place before, or at the same load one or two replicas before. Our own times are all equal, and so are
+// those of equal peers.
 fn is_repeat(d: usize, times: &[f64], i: usize) -> bool
     requires { ⌜ (d ≤ mostShards) × (i < length (now times)) ⌝ }
     ensures { λ r. ⌜ r ≡ isRepeat d (now (times .entry)) i ⌝ }
@@ -112,7 +114,8 @@ fn commits_at(
     layout::commits(n, quorum, d, total, answered, faults, &loads[..n])
 }
 
-// The most shards that each replica can persist by a time, and the mask of those that answer by then. A part, as first_time, with a load for each replica.
+// The most shards that each replica can persist by a time, and the mask of those that answer by then. A part, as first_time, with a load
+// for each replica.
 pub fn loads_at(
     n: usize,
     own: ReplicaId,

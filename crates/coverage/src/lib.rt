@@ -159,7 +159,8 @@ fn united(n: usize, heard: u64, rows: &[u64], fault: u64) -> Row
     acc
 }
 
-// The row of the replica s, if it is heard and not in the set; else no shard. No branch on either: which way one would go can't be foreseen.
+// The row of the replica s, if it is heard and not in the set; else no shard. No branch on either: which way one would go can't be
+// foreseen.
 fn share(heard: u64, rows: &[u64], fault: u64, s: ReplicaId) -> Row
     requires { ⌜ s .0 * 4 + 4 ≤ length (now rows) ⌝ }
     ensures { λ r. ⌜ rowOf r ≡ shareOf (rowIn (now (rows .entry))) heard fault (s .0) ⌝ }

@@ -39,7 +39,8 @@ pub fn read_decimal(s: &[u8]) -> Decimal
     read_parts(is_negative(s), i, f, c < u.len(), is_negative(x), q)
 }
 
-// The same of its parts: i and f are what stands before the point and after it, q is the exponent without its sign. A part: with no exponent q is empty.
+// The same of its parts: i and f are what stands before the point and after it, q is the exponent without its sign. A part: with no
+// exponent q is empty.
 fn read_parts(negative: bool, i: &[u8], f: &[u8], raised: bool, lowers: bool, q: &[u8]) -> Decimal
     requires { ⌜ (raised ≡ false → now q ≡ []) ⌝ }
     ensures { λ r. ⌜ decimal r ≡ readOf (record {
@@ -118,7 +119,8 @@ fn is_scale(ups: usize, downs: usize) -> bool
     downs <= ups + 22
 }
 
-// Whether every byte of s is a digit, and the number that they then spell after digits that are worth v, where there is room for it. One pass without a branch:
+// Whether every byte of s is a digit, and the number that they then spell after digits that are worth v, where there is room for it. One
+// pass without a branch:
 // a digit is its byte modulo 16, and what is no digit counts for something else.
 fn read_digits(s: &[u8], v: u64) -> Digits
     ensures { λ r. ⌜ (r .ok ≡ all isDigit (now (s .entry)))

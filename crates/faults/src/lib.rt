@@ -19,7 +19,8 @@ pub enum Listed {
     Count(usize),
 }
 
-// The maximal sets of the family of a profile of n replicas, any f of which may fail, written to the front of `list` as masks in rising order.
+// The maximal sets of the family of a profile of n replicas, any f of which may fail, written to the front of `list` as masks in rising
+// order.
 pub fn fault_list(n: usize, f: usize, p: Profile, list: &mut [u64]) -> Listed
     ensures answer { λ r. ⌜ answer r ≡ faultListOf n f p (length (now (list .entry))) ⌝ }
     ensures words { λ r. ⌜ now (list .exit) ≡ faultWords n f p (now (list .entry)) ⌝ }
@@ -193,7 +194,8 @@ fn mark_domains(table: &mut [u64], domains: &[u64])
     }
 }
 
-// Flags each probable set that has the members of `mask` below `next` and some member from `next` on; p is the product for the members of `mask`.
+// Flags each probable set that has the members of `mask` below `next` and some member from `next` on; p is the product for the members of
+// `mask`.
 // Where a product is below the threshold it goes no further: a factor from 0 to 1 never raises a product.
 fn mark_probable(table: &mut [u64], probs: &[f64], next: usize, mask: usize, p: f64, threshold: f64)
     requires { ⌜ length (now probs) ≤ 16 ⌝ }

@@ -21,7 +21,8 @@ struct Progress {
     over: bool,
 }
 
-// Greedily considers the peers from the one after us on until enough shards are covered; the source, which first sent us the value, is the last.
+// Greedily considers the peers from the one after us on until enough shards are covered; the source, which first sent us the value, is the
+// last.
 pub fn gossip_targets_excl(
     n: usize,
     own: ReplicaId,

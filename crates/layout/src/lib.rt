@@ -30,7 +30,8 @@ pub enum Tested {
     Layout { width: usize, commits: bool },
 }
 
-// The rows of n loads, written to the lent table: a full row gets the data shards, the others disjoint shards in order, wrapping round at the width.
+// The rows of n loads, written to the lent table: a full row gets the data shards, the others disjoint shards in order, wrapping round at
+// the width.
 pub fn layout_rows(
     n: usize,
     d: usize,
@@ -48,7 +49,8 @@ pub fn layout_rows(
     Laid::Width(lay(d, total, loads, rows))
 }
 
-// The same of the loads of those that answer, and whether replies from these commit: there are at least a quorum of them, and they pass the commit rule.
+// The same of the loads of those that answer, and whether replies from these commit: there are at least a quorum of them, and they pass the
+// commit rule.
 pub fn layout_commits(
     n: usize,
     quorum: usize,
@@ -82,7 +84,8 @@ pub fn layout_commits(
     Tested::Layout { width, commits }
 }
 
-// Lays the loads out at the front of the table, and gives the width. A part: the shards have been tested, and there are four words for each load.
+// Lays the loads out at the front of the table, and gives the width. A part: the shards have been tested, and there are four words for each
+// load.
 pub fn lay(d: usize, total: TotalShards, loads: &[usize], rows: &mut [u64]) -> usize
     requires { ⌜ Fit d (bound total) × (length (now loads) ≤ 16) × (length (now loads) * 4 ≤ length (now rows)) ⌝ }
     ensures width { λ r. ⌜ r ≡ widthOf d total (now (loads .entry)) ⌝ }

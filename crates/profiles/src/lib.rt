@@ -63,7 +63,8 @@ fn unreliability_refusal(n: usize, peer: ReplicaId, p: Profile) -> u8
     profile_refusal(n, p)
 }
 
-// The probability that the profile gives the peer, or 0, and under `runtime` the larger of that and the downtime. A part: the peer's number has been tested.
+// The probability that the profile gives the peer, or 0, and under `runtime` the larger of that and the downtime. A part: the peer's number
+// has been tested.
 fn chance(peer: ReplicaId, p: Profile, down: f64) -> f64
     requires { ⌜ peer .0 < 16 ⌝ }
     ensures { λ r. ⌜ r ≡ chanceOf p (peer .0) down ⌝ }

@@ -20,7 +20,8 @@ pub first-rows-length : (n : ℕ) (table : List ℕ) → length (firstRows n tab
 first-rows-length n table = each-below-length (rowIn table) n
 
 -- one row written is one member of the list set
-pub first-rows-set : (n : ℕ) (table : List ℕ) (r m : ℕ) → n * 4 ≤ length table → r < n → m < 2 ^ 256 → firstRows n (withRow table r m) ≡ set (firstRows n table) r m
+pub first-rows-set : (n : ℕ) (table : List ℕ) (r m : ℕ) → n * 4 ≤ length table → r < n → m < 2 ^ 256
+    → firstRows n (withRow table r m) ≡ set (firstRows n table) r m
 first-rows-set n table r m room h small =
     ext-getD 0 (firstRows n (withRow table r m)) (set (firstRows n table) r m)
     (first-rows-length n (withRow table r m) ∙ sym (length-set (firstRows n table) r m ∙ first-rows-length n table))
@@ -50,7 +51,8 @@ four-words : (table : List ℕ) → Words table → (s : ℕ) → s * 4 + 4 ≤ 
 unfolding rowIn
 four-words table h s room =
     let l : length (take 4 (drop (s * 4) table)) ≡ 4 = length-take-le 4 (drop (s * 4) table) (omega (arith, length-drop (s * 4) table)) in
-    ap (λ (k : ℕ). wordsOf k (value (take 4 (drop (s * 4) table)))) (sym l) ∙ words-value (take 4 (drop (s * 4) table)) (part-words table (s * 4) 4 h)
+    ap (λ (k : ℕ). wordsOf k (value (take 4 (drop (s * 4) table)))) (sym l)
+    ∙ words-value (take 4 (drop (s * 4) table)) (part-words table (s * 4) 4 h)
 
 -- the first rows spell the first words
 pub first-rows-spell : (n : ℕ) (table : List ℕ) → Words table → n * 4 ≤ length table → spelled (firstRows n table) ≡ take (n * 4) table

@@ -1,4 +1,5 @@
--- Which shard a bit of a lent table is, also where its last row is not whole, and which tables pass the check for shards at or above a width.
+-- Which shard a bit of a lent table is, also where its last row is not whole, and which tables pass the check for shards at or above a
+-- width.
 -- Assumes nothing.
 use mathlib.Core.Path.{_≡_, sym, ap, subst, _∙_}
 use mathlib.Core.Logic.{_↔_}
@@ -41,18 +42,22 @@ module _ (table : List ℕ) (h : Words table) where
       lt-of-lt-of-le (value-lt l (part-words table (s * 4) 4 h)) (pow-mono {i = length l * 64} {j = 256} (omega (arith, length-take 4 (drop (s * 4) table))))
 
   -- every row is below w exactly if no bit that is there is a shard at or above w
-  pub table-below : (w : ℕ) → (all (isBelow w) (rowsIn table) ≡ true) ↔ ((i t : ℕ) → t < 64 → w ≤ i % 4 * 64 + t → bit (getD table i 0) t ≡ 0)
+  pub table-below : (w : ℕ)
+      → (all (isBelow w) (rowsIn table) ≡ true) ↔ ((i t : ℕ) → t < 64 → w ≤ i % 4 * 64 + t → bit (getD table i 0) t ≡ 0)
   table-below w = (
-    λ e i t l k. sym (table-bit i t l) ∙ below-bit w (rowIn table (i / 4)) (i % 4 * 64 + t) (row-below w table (all-means (isBelow w) 0 (rowsIn table) .0 e) (i / 4)) k,
+    λ e i t l k. sym (table-bit i t l)
+        ∙ below-bit w (rowIn table (i / 4)) (i % 4 * 64 + t) (row-below w table (all-means (isBelow w) 0 (rowsIn table) .0 e) (i / 4)) k,
     λ f.
         all-means (isBelow w) 0 (rowsIn table) .1
         (λ s l. lt-ltb (getD (rowsIn table) s 0) (2 ^ w) (subst (λ (m : ℕ). m < 2 ^ w) (sym (rows-at table s)) (bits-below w (rowIn table s) (λ x k. clear f s x k (decLt x 256))))),
   )
     where
-      clear : ((i t : ℕ) → t < 64 → w ≤ i % 4 * 64 + t → bit (getD table i 0) t ≡ 0) → (s x : ℕ) → w ≤ x → Dec (x < 256) → bit (rowIn table s) x ≡ 0
+      clear : ((i t : ℕ) → t < 64 → w ≤ i % 4 * 64 + t → bit (getD table i 0) t ≡ 0) → (s x : ℕ) → w ≤ x → Dec (x < 256)
+          → bit (rowIn table s) x ≡ 0
       clear f s x k (yes l) =
           let i = s * 4 + x / 64 in
           let p : x / 64 * 64 + x % 64 ≡ x = omega arith in
           let q : i % 4 * 64 + x % 64 ≡ x = omega arith in
-          ap (bit (rowIn table s)) (sym p) ∙ place s (x / 64) (x % 64) (omega arith) (omega arith) ∙ f i (x % 64) (omega arith) (omega (arith, q))
+          ap (bit (rowIn table s)) (sym p) ∙ place s (x / 64) (x % 64) (omega arith) (omega arith)
+          ∙ f i (x % 64) (omega arith) (omega (arith, q))
       clear f s x k (no l) = below-bit 256 (rowIn table s) x (row-lt s) (omega arith)

@@ -1,4 +1,5 @@
--- A row of shards as machine words, the lowest shards first, and a lent table of rows. A row is the number that its words stand for. Assumes nothing.
+-- A row of shards as machine words, the lowest shards first, and a lent table of rows. A row is the number that its words stand for.
+-- Assumes nothing.
 use mathlib.Core.List.{List, [], _∷_, _++_}
 use Prim.Native.Nat.{ℕ, zero, suc, _+_, _-_, _*_, _/_, _%_, _^_}
 use lib.Bits.{bitOr}

@@ -34,14 +34,16 @@ unfolding value
 from-is zero i xs = refl
 from-is (suc k) i xs = go (decLt i (length xs)) (from-is k (suc i) xs)
   where
-    go : Dec (i < length xs) → value (take k (drop (suc i) xs)) ≡ value (from k (suc i) xs) → value (take (suc k) (drop i xs)) ≡ value (from k (suc i) xs) * 2 ^ 64 + getD xs i 0
+    go : Dec (i < length xs) → value (take k (drop (suc i) xs)) ≡ value (from k (suc i) xs)
+        → value (take (suc k) (drop i xs)) ≡ value (from k (suc i) xs) * 2 ^ 64 + getD xs i 0
     go (yes l) e = ap (λ (ys : List ℕ). value (take (suc k) ys)) (drop-cons xs i 0 l) ∙ ap (λ (v : ℕ). v * 2 ^ 64 + getD xs i 0) e
     go (no l) e =
         let z : value (take k (drop (suc i) xs)) ≡ 0 = ap (λ (ys : List ℕ). value (take k ys)) (drop-of-length-le xs {i = suc i} (omega arith)) ∙ ap value (take-nil k) in
         let g : getD xs i 0 ≡ 0 = List·getD-eq-default xs 0 {n = i} (omega arith) in
         ap (λ (ys : List ℕ). value (take (suc k) ys)) (drop-of-length-le xs {i = i} (omega arith)) ∙ omega arith
 
-pub row-is : (table : List ℕ) (s : ℕ) → value (getD table (s * 4) 0 ∷ getD table (s * 4 + 1) 0 ∷ getD table (s * 4 + 2) 0 ∷ getD table (s * 4 + 3) 0 ∷ []) ≡ rowIn table s
+pub row-is : (table : List ℕ) (s : ℕ)
+    → value (getD table (s * 4) 0 ∷ getD table (s * 4 + 1) 0 ∷ getD table (s * 4 + 2) 0 ∷ getD table (s * 4 + 3) 0 ∷ []) ≡ rowIn table s
 unfolding rowIn
 row-is table s =
     let p : s * 4 + 1 ≡ suc (s * 4) = omega arith in
@@ -73,7 +75,8 @@ spelled-length (m ∷ ms) = omega (arith, length-append (wordsOf 4 m) (spelled m
 pub spelled-append : (xs ys : List ℕ) → spelled (xs ++ ys) ≡ spelled xs ++ spelled ys
 unfolding spelled
 spelled-append [] ys = refl
-spelled-append (x ∷ xs) ys = ap (λ (l : List ℕ). wordsOf 4 x ++ l) (spelled-append xs ys) ∙ sym (append-assoc (wordsOf 4 x) (spelled xs) (spelled ys))
+spelled-append (x ∷ xs) ys = ap (λ (l : List ℕ). wordsOf 4 x ++ l) (spelled-append xs ys)
+    ∙ sym (append-assoc (wordsOf 4 x) (spelled xs) (spelled ys))
 
 -- each row has room in four words
 abbrev pub Rows : List ℕ → Type 0
@@ -94,7 +97,8 @@ spelled-row (m ∷ ms) h zero = first m (spelled ms) ∙ value-words 4 m (h 0)
 spelled-row (m ∷ ms) h (suc s) =
     let e : suc s * 4 ≡ 4 + s * 4 = omega arith in
     let d : drop (4 + s * 4) (wordsOf 4 m ++ spelled ms) ≡ drop (s * 4) (spelled ms) = subst (λ (k : ℕ). drop (k + s * 4) (wordsOf 4 m ++ spelled ms) ≡ drop (s * 4) (spelled ms)) (words-length 4 m) (drop-append-add (wordsOf 4 m) (spelled ms) (s * 4)) in
-    ap (λ (k : ℕ). value (take 4 (drop k (wordsOf 4 m ++ spelled ms)))) e ∙ ap (λ (l : List ℕ). value (take 4 l)) d ∙ spelled-row ms (λ i. h (suc i)) s
+    ap (λ (k : ℕ). value (take 4 (drop k (wordsOf 4 m ++ spelled ms)))) e ∙ ap (λ (l : List ℕ). value (take 4 l)) d
+    ∙ spelled-row ms (λ i. h (suc i)) s
 
 -- its rows are these
 pub spelled-rows : (ms : List ℕ) → Rows ms → rowsIn (spelled ms) ≡ ms
@@ -163,7 +167,8 @@ module _ (w : ℕ) (f : ℕ → ℕ) where
   pub unite-below : (k : ℕ) → isBelow w (uniteBelow f k) ≡ all (isBelow w) (eachBelow f k)
   unfolding uniteBelow eachBelow
   unite-below zero = lt-ltb 0 (2 ^ w) (pow-pos w)
-  unite-below (suc k) = or-below w (uniteBelow f k) (f k) ∙ ap (λ (b : Bool). b && isBelow w (f k)) (unite-below k) ∙ sym (all-append (isBelow w) (eachBelow f k) (f k))
+  unite-below (suc k) = or-below w (uniteBelow f k) (f k) ∙ ap (λ (b : Bool). b && isBelow w (f k)) (unite-below k)
+      ∙ sym (all-append (isBelow w) (eachBelow f k) (f k))
 
 -- a table has as many whole rows as its length has fours; one row more is the part that is left, or nothing
 pub all-rows-below : (w : ℕ) (table : List ℕ) → isBelow w (uniteBelow (rowIn table) (length table / 4 + 1)) ≡ all (isBelow w) (rowsIn table)
@@ -173,9 +178,11 @@ all-rows-below w table = go (ℕ-discrete (length table % 4) 0)
     n : ℕ
     n = length table / 4
 
-    go : Dec (length table % 4 ≡ 0) → isBelow w (uniteBelow (rowIn table) (length table / 4 + 1)) ≡ all (isBelow w) (eachBelow (rowIn table) ((length table + 3) / 4))
+    go : Dec (length table % 4 ≡ 0)
+        → isBelow w (uniteBelow (rowIn table) (length table / 4 + 1)) ≡ all (isBelow w) (eachBelow (rowIn table) ((length table + 3) / 4))
     go (yes e) =
-        ap (isBelow w) (one-more (rowIn table) n (beyond table n (drop-of-length-le table {i = n * 4} (omega arith)))) ∙ unite-below w (rowIn table) n
+        ap (isBelow w) (one-more (rowIn table) n (beyond table n (drop-of-length-le table {i = n * 4} (omega arith))))
+        ∙ unite-below w (rowIn table) n
         ∙ ap (λ (k : ℕ). all (isBelow w) (eachBelow (rowIn table) k)) (omega arith)
     go (no e) =
         ap (λ (k : ℕ). isBelow w (uniteBelow (rowIn table) k)) (omega arith) ∙ unite-below w (rowIn table) ((length table + 3) / 4)
@@ -200,7 +207,8 @@ module _ (w : ℕ) (wide : 192 ≤ w) (table : List ℕ) (h : Words table) where
   pub last-words-below : isBelow (w - 192) (uniteBelow (lastIn table) (length table / 4)) ≡ all (isBelow w) (rowsIn table)
   last-words-below =
       let n = length table / 4 in
-      ap (isBelow (w - 192)) (sym (one-more (lastIn table) n (List·getD-eq-default table 0 {n = n * 4 + 3} (omega arith)))) ∙ last-united (n + 1)
+      ap (isBelow (w - 192)) (sym (one-more (lastIn table) n (List·getD-eq-default table 0 {n = n * 4 + 3} (omega arith))))
+      ∙ last-united (n + 1)
       ∙ all-rows-below w table
 
 -- ---- another row in a table
@@ -209,7 +217,8 @@ module _ (w : ℕ) (wide : 192 ≤ w) (table : List ℕ) (h : Words table) where
 sets-other : (vs l : List ℕ) (i j : ℕ) → (i ≤ j → i + length vs ≤ j) → getD (sets l i vs) j 0 ≡ getD l j 0
 sets-other [] l i j h = refl
 sets-other (v ∷ vs) l i j h =
-    sets-other vs (set l i v) (suc i) j (λ g. omega (arith, h (omega arith))) ∙ getD-set-other l i j v 0 (λ (e : j ≡ i). omega (arith, h (omega arith)))
+    sets-other vs (set l i v) (suc i) j (λ g. omega (arith, h (omega arith)))
+    ∙ getD-set-other l i j v 0 (λ (e : j ≡ i). omega (arith, h (omega arith)))
 
 module _ (table : List ℕ) (s m : ℕ) (room : s * 4 + 4 ≤ length table) where
   pub with-row-same : m < 2 ^ 256 → rowIn (withRow table s m) s ≡ m
@@ -261,7 +270,8 @@ no-word (suc n) zero = refl
 no-word (suc n) (suc i) = no-word n i
 
 pub no-row : (n s : ℕ) → rowIn (replicate n 0) s ≡ 0
-no-row n s = sym (row-is (replicate n 0) s) ∙ rw (no-word n (s * 4), no-word n (s * 4 + 1), no-word n (s * 4 + 2), no-word n (s * 4 + 3)) empty
+no-row n s = sym (row-is (replicate n 0) s)
+    ∙ rw (no-word n (s * 4), no-word n (s * 4 + 1), no-word n (s * 4 + 2), no-word n (s * 4 + 3)) empty
 
 -- each of the rows of a table's first n passes
 pub first-rows-below : (w n : ℕ) (table : List ℕ) → ((s : ℕ) → rowIn table s < 2 ^ w) → all (isBelow w) (rowsIn (take (n * 4) table)) ≡ true
@@ -289,7 +299,8 @@ rows-count table = each-below-length (rowIn table) ((length table + 3) / 4)
 pub rows-with : (table : List ℕ) (s m : ℕ) → s * 4 + 4 ≤ length table → m < 2 ^ 256 → rowsIn (withRow table s m) ≡ set (rowsIn table) s m
 rows-with table s m room h =
     let now = withRow table s m in
-    let k : length (rowsIn now) ≡ length (rowsIn table) = rows-count now ∙ ap (λ (n : ℕ). (n + 3) / 4) (with-row-length table s m room) ∙ sym (rows-count table) in
+    let k : length (rowsIn now) ≡ length (rowsIn table) = rows-count now ∙ ap (λ (n : ℕ). (n + 3) / 4) (with-row-length table s m room)
+    ∙ sym (rows-count table) in
     ext-getD 0 (rowsIn now) (set (rowsIn table) s m) (k ∙ sym (length-set (rowsIn table) s m)) (λ i g. rows-at now i ∙ go i (ℕ-discrete i s))
   where
     go : (i : ℕ) → Dec (i ≡ s) → rowIn (withRow table s m) i ≡ getD (set (rowsIn table) s m) i 0
@@ -350,10 +361,12 @@ spelled-take zero ms = refl
 spelled-take (suc k) [] = take-nil (suc k * 4)
 spelled-take (suc k) (m ∷ ms) =
     let e : suc k * 4 ≡ length (wordsOf 4 m) + k * 4 = omega (arith, words-length 4 m) in
-    ap (λ (n : ℕ). take n (wordsOf 4 m ++ spelled ms)) e ∙ take-append-add (wordsOf 4 m) (spelled ms) (k * 4) ∙ ap (λ (l : List ℕ). wordsOf 4 m ++ l) (spelled-take k ms)
+    ap (λ (n : ℕ). take n (wordsOf 4 m ++ spelled ms)) e ∙ take-append-add (wordsOf 4 m) (spelled ms) (k * 4)
+    ∙ ap (λ (l : List ℕ). wordsOf 4 m ++ l) (spelled-take k ms)
 
 -- n rows from k on
-pub part-spelled : (table : List ℕ) (h k n : ℕ) → Words table → length table ≡ h * 4 → take (n * 4) (drop (k * 4) table) ≡ spelled (take n (drop k (rowsIn table)))
+pub part-spelled : (table : List ℕ) (h k n : ℕ) → Words table → length table ≡ h * 4
+    → take (n * 4) (drop (k * 4) table) ≡ spelled (take n (drop k (rowsIn table)))
 part-spelled table h k n words e =
     ap (λ (l : List ℕ). take (n * 4) (drop (k * 4) l)) (sym (rows-spelled table h words e))
     ∙ ap (take (n * 4)) (spelled-drop k (rowsIn table)) ∙ spelled-take n (drop k (rowsIn table))

@@ -1,4 +1,5 @@
--- What the words of a row say of the number that they stand for, for rows of any count of words: a member's bit, the union, the count and its meaning in distinct
+-- What the words of a row say of the number that they stand for, for rows of any count of words: a member's bit, the union, the count and
+-- its meaning in distinct
 -- members, the width, one member more, and a run. Assumes nothing.
 use mathlib.Core.Path.{_≡_, refl, sym, ap, ap₂, subst, _∙_}
 use mathlib.Core.Logic.{_↔_}
@@ -38,7 +39,8 @@ pub bit-low : (k a r s : ℕ) → s < k → bit (a * 2 ^ k + r) s ≡ bit r s
 bit-low zero a r s h = absurd (not-suc-le-zero h)
 bit-low (suc k) a r zero h = bit-zero (a * 2 ^ suc k + r) ∙ block-odd a k r ∙ sym (bit-zero r)
 bit-low (suc k) a r (suc s) h =
-    sym (bit-half (a * 2 ^ suc k + r) s) ∙ ap (λ (x : ℕ). bit x s) (block-half a k r) ∙ bit-low k a (r / 2) s (le-of-suc-le-suc h) ∙ bit-half r s
+    sym (bit-half (a * 2 ^ suc k + r) s) ∙ ap (λ (x : ℕ). bit x s) (block-half a k r) ∙ bit-low k a (r / 2) s (le-of-suc-le-suc h)
+    ∙ bit-half r s
 
 pub bit-high : (k a r t : ℕ) → r < 2 ^ k → bit (a * 2 ^ k + r) (k + t) ≡ bit a t
 bit-high k a r t h = ap (λ (x : ℕ). x % 2) (sym (shr-shr (a * 2 ^ k + r) k t) ∙ ap (λ (x : ℕ). x / 2 ^ t) (high a k h))
@@ -71,7 +73,8 @@ unfolding value
 value-or [] ys h g = sym (or-zero-l (value ys))
 value-or (x ∷ xs) [] h g = sym (or-zero-r (value xs * 2 ^ 64 + x))
 value-or (x ∷ xs) (y ∷ ys) h g =
-    ap (λ (v : ℕ). v * 2 ^ 64 + bitOr x y) (value-or xs ys (λ i. h (suc i)) (λ i. g (suc i))) ∙ sym (or-block 64 (value xs) (value ys) x y (h 0) (g 0))
+    ap (λ (v : ℕ). v * 2 ^ 64 + bitOr x y) (value-or xs ys (λ i. h (suc i)) (λ i. g (suc i)))
+    ∙ sym (or-block 64 (value xs) (value ys) x y (h 0) (g 0))
 
 -- ---- the count, word by word, and what it means
 
@@ -118,7 +121,8 @@ below-block w v x h = go (decLt (v * 2 ^ 64 + x) (2 ^ w)) (decLt x (2 ^ w)) (dec
         let p : 2 ^ w ≡ 2 ^ (w - 64) * 2 ^ 64 = ap (λ (k : ℕ). 2 ^ k) (omega arith) ∙ pow-add 2 (w - 64) 64 in
         omega arith
 
-    go : Dec (v * 2 ^ 64 + x < 2 ^ w) → Dec (x < 2 ^ w) → Dec (v < 2 ^ (w - 64)) → (v * 2 ^ 64 + x < 2 ^ w → v < 2 ^ (w - 64)) → (x < 2 ^ w → v < 2 ^ (w - 64) → v * 2 ^ 64 + x < 2 ^ w)
+    go : Dec (v * 2 ^ 64 + x < 2 ^ w) → Dec (x < 2 ^ w) → Dec (v < 2 ^ (w - 64)) → (v * 2 ^ 64 + x < 2 ^ w → v < 2 ^ (w - 64))
+        → (x < 2 ^ w → v < 2 ^ (w - 64) → v * 2 ^ 64 + x < 2 ^ w)
         → isBelow w (v * 2 ^ 64 + x) ≡ (isBelow w x && isBelow (w - 64) v)
     go (yes a) (yes b) (yes c) f g = rw (lt-ltb (v * 2 ^ 64 + x) (2 ^ w) a, lt-ltb x (2 ^ w) b, lt-ltb v (2 ^ (w - 64)) c)
     go (yes a) (yes b) (no c) f g = absurd (c (f a))
@@ -141,7 +145,8 @@ below-past w x xs l h =
 
 -- ---- one member more
 
-pub value-with : (xs : List ℕ) → Words xs → (j t : ℕ) → j < length xs → t < 64 → value (set xs j (withBit (getD xs j 0) t)) ≡ withBit (value xs) (j * 64 + t)
+pub value-with : (xs : List ℕ) → Words xs → (j t : ℕ) → j < length xs → t < 64
+    → value (set xs j (withBit (getD xs j 0) t)) ≡ withBit (value xs) (j * 64 + t)
 unfolding value
 value-with [] h j t l g = absurd (not-suc-le-zero l)
 value-with (x ∷ xs) h zero t l g =
@@ -149,7 +154,8 @@ value-with (x ∷ xs) h zero t l g =
     sym (ap (bitOr (value xs * 2 ^ 64 + x)) p ∙ or-block 64 (value xs) 0 x (2 ^ t) (h 0) (pow-lt g)
     ∙ ap (λ (v : ℕ). v * 2 ^ 64 + bitOr x (2 ^ t)) (or-zero-r (value xs)))
 value-with (x ∷ xs) h (suc j) t l g =
-    let p : 2 ^ (suc j * 64 + t) ≡ 2 ^ (j * 64 + t) * 2 ^ 64 + 0 = ap (λ (s : ℕ). 2 ^ s) (omega arith) ∙ pow-add 2 (j * 64 + t) 64 ∙ omega arith in
+    let p : 2 ^ (suc j * 64 + t) ≡ 2 ^ (j * 64 + t) * 2 ^ 64 + 0 = ap (λ (s : ℕ). 2 ^ s) (omega arith) ∙ pow-add 2 (j * 64 + t) 64
+    ∙ omega arith in
     ap (λ (v : ℕ). v * 2 ^ 64 + x) (value-with xs (λ i. h (suc i)) j t (le-of-suc-le-suc l) g)
     ∙ sym (ap (bitOr (value xs * 2 ^ 64 + x)) p ∙ or-block 64 (value xs) (2 ^ (j * 64 + t)) x 0 (h 0) (pow-pos 64)
     ∙ ap (λ (y : ℕ). bitOr (value xs) (2 ^ (j * 64 + t)) * 2 ^ 64 + y) (or-zero-r x))
@@ -175,7 +181,8 @@ unfolding value
 words-sum zero a e h l = omega (arith, power a e (omega arith))
 words-sum (suc k) a e h l = go (decLe a 64) (decLe e 64) (words-sum k (a - 64) (e - 64) (omega arith) (omega arith)) (run-sum (min a 64) (min e 64) (omega arith))
   where
-    go : Dec (a ≤ 64) → Dec (e ≤ 64) → value (runWords k (a - 64) (e - 64)) + 2 ^ (a - 64) ≡ 2 ^ (e - 64) → span a e + 2 ^ min a 64 ≡ 2 ^ min e 64
+    go : Dec (a ≤ 64) → Dec (e ≤ 64) → value (runWords k (a - 64) (e - 64)) + 2 ^ (a - 64) ≡ 2 ^ (e - 64)
+        → span a e + 2 ^ min a 64 ≡ 2 ^ min e 64
         → value (runWords k (a - 64) (e - 64)) * 2 ^ 64 + span a e + 2 ^ a ≡ 2 ^ e
     go (yes x) (yes y) v s =
         let p : 2 ^ (a - 64) ≡ 1 = power (a - 64) 0 (omega arith) in

@@ -14,7 +14,8 @@ ghost use Rattle.rows.specs.WordLaws.{span};
 // The number of a shard.
 pub struct ShardId(pub usize);
 
-// The shards that a replica holds, or those that a reply names: shard s is bit s % 64 of the word s / 64. Four fields and no array, so that an enum can hold a row.
+// The shards that a replica holds, or those that a reply names: shard s is bit s % 64 of the word s / 64. Four fields and no array, so that
+// an enum can hold a row.
 #[repr(C)]
 pub struct Row {
     pub w0: u64,
@@ -134,7 +135,8 @@ fn run_across(a: usize, k: usize) -> Row
     Row { w0, w1, w2, w3 }
 }
 
-// The k shards from that one on, each modulo w. A part: k is at most w, and w from 1 to 256. Up to a width of 64 the first word has them all.
+// The k shards from that one on, each modulo w. A part: k is at most w, and w from 1 to 256. Up to a width of 64 the first word has them
+// all.
 pub fn run_modulo(from: ShardId, k: usize, w: usize) -> Row
     requires { ⌜ (0 < w) × (w ≤ 256) × (k ≤ w) ⌝ }
     ensures { λ r. ⌜ rowOf r ≡ runModulo w (from .0) k ⌝ }
@@ -183,7 +185,8 @@ pub fn row_in(rows: &[u64], s: usize) -> Row
     }
 }
 
-// The row of the replica s, of which the table may have a part or nothing: a word that it does not have counts as 0. A part: s is no larger than the table.
+// The row of the replica s, of which the table may have a part or nothing: a word that it does not have counts as 0. A part: s is no larger
+// than the table.
 fn part_in(rows: &[u64], s: usize) -> Row
     requires { ⌜ s * 4 ≤ length (now rows) ⌝ }
     ensures { λ r. ⌜ rowOf r ≡ rowIn (now (rows .entry)) s ⌝ }

@@ -1,4 +1,5 @@
-// The description of a site: a line for each key, with its value. `#` begins a comment; blank lines say nothing. The keys stand in any order.
+// The description of a site: a line for each key, with its value. `#` begins a comment; blank lines say nothing. The keys stand in any
+// order.
 //
 //     population N    own N    tolerance N    quorum N    data-shards N    size N
 //     width exactly N, or width at most N
@@ -6,7 +7,8 @@
 //     profile TEXT
 //     peer N slope X delay X jitter X in-flight N downtime X, or peer N silent, or peer N silent in-flight N
 //
-// N is a whole number, X a decimal; the names after a peer's number stand in any order. What is read here is in no contract: the entries check it for themselves.
+// N is a whole number, X a decimal; the names after a peer's number stand in any order. What is read here is in no contract: the entries
+// check it for themselves.
 ghost use Prim.Native.Nat.{_≤_};
 ghost use lib.ListN.{length};
 use decimals::Decimal;

@@ -1,4 +1,5 @@
-// The steps of an adaptive choice: each has more shards a replica, waits for fewer replicas, and takes a time that the peers' models predict.
+// The steps of an adaptive choice: each has more shards a replica, waits for fewer replicas, and takes a time that the peers' models
+// predict.
 ghost use mathlib.Core.Path.{_≡_};
 ghost use Prim.Native.Nat.{_+_, _%_, _≤_, _<_, _^_};
 ghost use lib.ListN.{length, getD};

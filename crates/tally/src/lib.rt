@@ -1,4 +1,5 @@
-// The tally of accept replies for one value at one ballot (handle_msg_accept_reply, after the value id test): the opening, and what a reply does to it.
+// The tally of accept replies for one value at one ballot (handle_msg_accept_reply, after the value id test): the opening, and what a reply
+// does to it.
 ghost use mathlib.Core.Path.{_≡_};
 ghost use Prim.Native.Nat.{_+_, _*_, _≤_};
 ghost use lib.ListN.{length, take};
@@ -197,7 +198,8 @@ fn fresh(n: usize, quorum: usize, d: usize, w: usize, ballot: u64, high: u64, lo
     }
 }
 
-// The number that refuses a reply, or 0. The tally is tested like the opening's values, and its words too: it may come from anywhere. A part:
+// The number that refuses a reply, or 0. The tally is tested like the opening's values, and its words too: it may come from anywhere. A
+// part:
 // its 16 rows are lent apart, so that the test copies none.
 fn reply_refusal(
     t: Tally,

@@ -92,7 +92,8 @@ pub fn shard_length(size: u64, d: usize) -> u64
     if len == 0 { 1 } else { len }
 }
 
-// The times of the replicas at the loads 0 to d, one replica after another. A part: the numbers have been tested, and the table has room for n replicas.
+// The times of the replicas at the loads 0 to d, one replica after another. A part: the numbers have been tested, and the table has room
+// for n replicas.
 pub fn fill_times(
     n: usize,
     own: ReplicaId,
