@@ -253,11 +253,8 @@ fn concerned(text: &[u8], no: u8) -> Place {
 
 // The data shards, unless they are within bounds by themselves.
 fn of_shards(text: &[u8]) -> Place {
-    let d = site::number_of(text, b"data-shards");
-    if d == 0 {
-        return site::find(text, b"data-shards", 0, 0);
-    }
-    if 255 < d {
+    let d = site::number_of(text, b"data-shards") as usize;
+    if !refusals::is_shards(d, d) {
         return site::find(text, b"data-shards", 0, 0);
     }
     site::find(text, b"width", 0, 0)
