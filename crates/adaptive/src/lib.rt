@@ -1,6 +1,5 @@
 // The balanced policy: the fewest shards a replica may hold under the peers now alive (min_shards_per_replica), and the assignment that the
-// models favour
-// (pick_assignment_policy), as a choice and as the rows that it stands for.
+// models favour (pick_assignment_policy), as a choice and as the rows that it stands for.
 ghost use mathlib.Core.Path.{_≡_};
 ghost use Prim.Native.Nat.{_+_, _*_, _%_, _≤_, _<_, _^_, max};
 ghost use lib.ListN.{length, take, drop};
@@ -38,8 +37,7 @@ pub fn min_shards_per_replica(n: usize, f: usize, d: usize, majority: usize, ali
 }
 
 // Picks the assignment for a value of `size` bytes and the peers now alive: the initial layout, or a count of the balanced table, which has
-// n rows for each
-// count from d / majority to d, or nothing. A row has four words.
+// n rows for each count from d / majority to d, or nothing. A row has four words.
 pub fn pick_assignment_policy(
     n: usize,
     f: usize,
@@ -292,8 +290,7 @@ fn larger(a: usize, b: usize) -> usize
 }
 
 // The fewest shards a replica: with many replicas alive any assignment works, with too few full copies are the most careful. A part: the
-// numbers have been
-// tested.
+// numbers have been tested.
 fn floor_of(f: usize, d: usize, majority: usize, alive: usize) -> usize
     requires { ⌜ (f ≤ 16) × (d ≤ mostShards) × (0 < majority) × (majority ≤ 16) ⌝ }
     ensures { λ r. ⌜ r ≡ floorOf f d majority alive ⌝ }

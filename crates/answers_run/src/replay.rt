@@ -1,6 +1,5 @@
 // Replays stored answers: whether an entry, asked through the C interface, answers the input of a line as the line says.
-// differential/src/bin/stored.rs has
-// the format.
+// differential/src/bin/stored.rs has the format.
 ghost use mathlib.Core.Path.{_≡_};
 ghost use Rattle.tally.specs.Tally.{told};
 ghost use Rattle.rows.specs.Row.{rowOf};

@@ -31,8 +31,7 @@ pub enum Pick {
 }
 
 // Picks the assignment predicted to commit the soonest for a value of `size` bytes under d data shards and the total. Commits need replies
-// from at least
-// a quorum that pass the commit rule.
+// from at least a quorum that pass the commit rule.
 pub fn pick_assignment(
     n: usize,
     own: ReplicaId,

@@ -1,6 +1,6 @@
 // The C interface (include/callboard.h): an exported function for each entry, which takes its parameters apart, calls the entry and
-// flattens the answer. Every
-// number is 64 bits wide; a slice is a pointer and a length. Beside a refusal every other field is 0, and nothing is written.
+// flattens the answer. Every number is 64 bits wide; a slice is a pointer and a length. Beside a refusal every other field is 0, and
+// nothing is written.
 ghost use mathlib.Core.Path.{_≡_};
 ghost use mathlib.Core.Bool.{true};
 ghost use lib.ListN.{length};

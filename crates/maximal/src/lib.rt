@@ -1,6 +1,5 @@
 // The maximal members of a family of sets of n replicas, which a table of 2^n bits holds, a bit a mask. It is worked on in place and by
-// words,
-// in one pass for each replica and one more.
+// words, in one pass for each replica and one more.
 ghost use mathlib.Core.Path.{_≡_};
 ghost use Prim.Native.Nat.{_/_, _^_, _<_, _≤_};
 ghost use lib.Bits.{bitAnd};

@@ -6,13 +6,14 @@ use Prim.Native.Nat.{ℕ, zero, suc, _+_, _*_, _≤_, _<_}
 use native.Mathlib.Nat.{le-antisymm}
 use native.Mathlib.Numerals.{add-one}
 use native.Mathlib.Omega.{arith}
-use lib.Bits.{bitOr}
-use lib.ListN.{length, take, drop, length-append, length-drop}
+use lib.Bits.{bitOr, or-comm}
+use lib.ListN.{length, getD, take, drop, length-append, length-drop}
 use lib.Seq.{sets, sets-eq, take-append-seam, drop-append-add, drop-drop}
+use Rattle.bitmap.specs.RunLaws.{or-assoc}
 use Rattle.lists.specs.Below.{eachBelow, front}
 use Rattle.lists.specs.BelowLaws.{each-below-length}
 use Rattle.lists.proofs.BelowLoops.{front-length}
-use Rattle.rows.specs.Row.{wordsOf, spelled, withRow, uniteBelow}
+use Rattle.rows.specs.Row.{wordsOf, lastIn, spelled, withRow, uniteBelow}
 use Rattle.rows.specs.WordLaws.{words-length}
 use Rattle.rows.specs.TableLaws.{spelled-length, spelled-append}
 
@@ -31,6 +32,38 @@ module _ (f : ℕ → ℕ) where
 
   pub unite-last : (acc s n r u : ℕ) → acc ≡ uniteBelow f s → s ≤ n → n ≤ s → r ≡ f n → u ≡ bitOr acc r → u ≡ uniteBelow f (n + 1)
   unite-last acc s n r u e l g q t = unite-more acc n r u (e ∙ ap (uniteBelow f) (le-antisymm l g)) q t
+
+-- ---- a union of last words in four parts, one for each row of a group of four
+or-pairs : (a p b q : ℕ) → bitOr (bitOr a p) (bitOr b q) ≡ bitOr (bitOr a b) (bitOr p q)
+or-pairs a p b q = rw (or-assoc a p (bitOr b q), ← or-assoc p b q, or-comm p b, or-assoc b p q) (sym (or-assoc a b (bitOr p q)))
+
+or-fours : (a b c d p q r t : ℕ) → bitOr (bitOr (bitOr a p) (bitOr b q)) (bitOr (bitOr c r) (bitOr d t))
+    ≡ bitOr (bitOr (bitOr (bitOr (bitOr (bitOr a b) (bitOr c d)) p) q) r) t
+or-fours a b c d p q r t =
+    let m = bitOr (bitOr a b) (bitOr c d) in
+    ap₂ bitOr (or-pairs a p b q) (or-pairs c r d t) ∙ or-pairs (bitOr a b) (bitOr p q) (bitOr c d) (bitOr r t)
+    ∙ sym (or-assoc m (bitOr p q) (bitOr r t)) ∙ sym (or-assoc (bitOr m (bitOr p q)) r t)
+    ∙ ap (λ (n : ℕ). bitOr (bitOr n r) t) (sym (or-assoc m p q))
+
+module _ (table : List ℕ) where
+  pub fours-more : (a b c d g x y z w : ℕ) → bitOr (bitOr a b) (bitOr c d) ≡ uniteBelow (lastIn table) (g * 4)
+      → x ≡ bitOr a (getD table (g * 16 + 3) 0) → y ≡ bitOr b (getD table (g * 16 + 7) 0)
+      → z ≡ bitOr c (getD table (g * 16 + 11) 0) → w ≡ bitOr d (getD table (g * 16 + 15) 0)
+      → bitOr (bitOr x y) (bitOr z w) ≡ uniteBelow (lastIn table) ((g + 1) * 4)
+  unfolding uniteBelow
+  fours-more a b c d g x y z w e ex ey ez ew =
+      let s = g * 4 in
+      let k : (g + 1) * 4 ≡ suc (suc (suc (suc s))) = omega arith in
+      let p : g * 16 + 3 ≡ s * 4 + 3 = omega arith in
+      let q : g * 16 + 7 ≡ suc s * 4 + 3 = omega arith in
+      let r : g * 16 + 11 ≡ suc (suc s) * 4 + 3 = omega arith in
+      let t : g * 16 + 15 ≡ suc (suc (suc s)) * 4 + 3 = omega arith in
+      rw (k, ex, ey, ez, ew, p, q, r, t, ← e) (or-fours a b c d _ _ _ _)
+
+  pub fours-done : (a b c d g n k x y u : ℕ) → bitOr (bitOr a b) (bitOr c d) ≡ uniteBelow (lastIn table) (g * 4) → g ≤ n → n ≤ g → n ≡ k
+      → x ≡ bitOr a b → y ≡ bitOr c d → u ≡ bitOr x y → u ≡ uniteBelow (lastIn table) (k * 4)
+  fours-done a b c d g n k x y u e l h q ex ey eu =
+      rw (eu, ex, ey) (e ∙ ap (λ (m : ℕ). uniteBelow (lastIn table) (m * 4)) (le-antisymm l h ∙ q))
 
 -- ---- words written after those at the front of a table
 pub front-words : (xs vs l : List ℕ) → length xs + length vs ≤ length l → sets (front xs l) (length xs) vs ≡ front (xs ++ vs) l

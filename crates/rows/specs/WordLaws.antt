@@ -1,6 +1,5 @@
 -- What the words of a row say of the number that they stand for, for rows of any count of words: a member's bit, the union, the count and
--- its meaning in distinct
--- members, the width, one member more, and a run. Assumes nothing.
+-- its meaning in distinct members, the width, one member more, and a run. Assumes nothing.
 use mathlib.Core.Path.{_≡_, refl, sym, ap, ap₂, subst, _∙_}
 use mathlib.Core.Logic.{_↔_}
 use mathlib.Core.Bool.{Bool, true, _&&_}

@@ -1,6 +1,5 @@
 // What is wrong with a description of a site, said on standard output: the first line that is none, the keys that are missing, or the
-// number that refuses and
-// the line it concerns. Each function that answers whether all is well has said what is not.
+// number that refuses and the line it concerns. Each function that answers whether all is well has said what is not.
 use site::Place;
 use site::Width;
 

@@ -1,6 +1,6 @@
 // A line of the stored answers: its numbers, the values that they stand for, and whether an answer is the one that they say.
-// differential/src/bin/stored.rs has
-// the format: a slice is its length and then its elements; a float is its bits. What a line lacks is 0, or empty.
+// differential/src/bin/stored.rs has the format: a slice is its length and then its elements; a float is its bits. What a line lacks is 0,
+// or empty.
 ghost use mathlib.Core.Path.{_≡_};
 ghost use lib.Ieee.{binary64, nanBits};
 use c_types::Answer;

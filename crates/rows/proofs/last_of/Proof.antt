@@ -5,7 +5,7 @@ use borrow.Author.Needs.{needs}
 use native.Mathlib.Omega.{arith}
 use lib.ListN.{length}
 use Rattle.rows.specs.Row.{lastIn, uniteBelow}
-use Rattle.rows.proofs.TableLoops.{unite-start, unite-more, unite-done}
+use Rattle.rows.proofs.TableLoops.{unite-more, unite-done}
 use Rattle.rows.proofs.last_of.Statement.{statement}
 use Rattle.rows.proofs.last_of.Tie as tie
 
@@ -21,7 +21,9 @@ last-of-spec =
     (tie.spec
     Inv-loop
     μ-loop
-    (λ c. (search needs, refl, search unite-start))
+    (λ c κs. search needs)
+    (λ c. omega arith)
+    (λ c. (omega arith, refl, search needs))
     (λ c. omega arith)
     (λ c. omega arith)
     (λ c. search needs)
