@@ -9,7 +9,6 @@ use lib.Ieee.{add, mul, div, ofInt, ofBits}
 use lib.ListN.{replicate}
 use Rattle.lists.specs.Below.{someBelow, eachBelow}
 use Rattle.lists.specs.First.{leastUpTo}
-use Rattle.lists.specs.Sort.{lowerBy, upperBy}
 use Rattle.bitmap.specs.Mask.{count}
 use Rattle.rows.specs.Row.{value, wordsOf, rowIn, rowsIn, spelled}
 use Rattle.floats.specs.Floats.{totalLe}
@@ -196,7 +195,7 @@ picked l =
     (c, spelled (rowsOf (l .n) (l .d) (l .majority) c (rowsIn (l .initial)) (rowsIn (l .table))))
 
 choices-are : map picked choices ≡ map (λ (l : Line). l .says) choices
-unfolding words line choices picked value wordsOf rowIn rowsIn spelled policyOf policyRefusal isPopulation isShards isQuorum peersFit someBelow count floorOf bestShards bestStep leastUpTo timeOfStep stepTime peerTimes eachBelow predictOf add mul div ofInt ofBits totalLe lowerBy upperBy
+unfolding words line choices picked value wordsOf rowIn rowsIn spelled policyOf policyRefusal isPopulation isShards isQuorum peersFit someBelow count floorOf bestShards bestStep leastUpTo timeOfStep stepTime peerTimes eachBelow predictOf add mul div ofInt ofBits totalLe
 choices-are = refl
 
 -- ---- what is refused, and with which number, whether or not it is adaptive and balanced; the rows are then none

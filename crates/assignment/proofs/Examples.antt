@@ -6,7 +6,6 @@ use Prim.Native.Nat.{ℕ, _*_}
 use lib.ListN.{length, replicate}
 use lib.Ieee.{binary64, add, mul, div, ofInt, ofBits, toBits, le}
 use Rattle.lists.specs.Below.{someBelow, thoseBelow, runFrom, eachBelow}
-use Rattle.lists.specs.Sort.{lowerBy, upperBy}
 use Rattle.bitmap.specs.Mask.{count, maskBelow, gather}
 use Rattle.floats.specs.Floats.{isFinite, totalLe}
 use Rattle.rows.specs.Row.{value, wordsOf, spelled}
@@ -162,7 +161,7 @@ sheet =
     ∷ []
 
 picks : map (λ (l : Line). told (pickOf (l .n) (l .own) (l .quorum) (l .d) (l .total) (l .size) (l .peers) (ofBits binary64 (l .penalty)) (l .faults) (l .rows))) sheet ≡ map (λ (l : Line). l .says) sheet
-unfolding line sheet pickOf pickRefusal peersFit someBelow isPopulation isShards isQuorum isFaultList planOf firstTime commitsAt answeredAt loadsAt runAt runFrom maskBelow eachBelow loadsFor shardLength timesOf timeAt replyTime settled predictOf isFinite add mul div ofInt ofBits toBits le totalLe layoutCommits commits isCovered leaves unionOf count widthOf rowFor rowsOf gather trimmed trimmedIn tried keeps trimOrder peersOf thoseBelow slower lowerBy upperBy
+unfolding line sheet pickOf pickRefusal peersFit someBelow isPopulation isShards isQuorum isFaultList planOf firstTime commitsAt answeredAt loadsAt runAt runFrom maskBelow eachBelow loadsFor shardLength timesOf timeAt replyTime settled predictOf isFinite add mul div ofInt ofBits toBits le totalLe layoutCommits commits isCovered leaves unionOf count widthOf rowFor rowsOf gather trimmed trimmedIn tried keeps trimOrder peersOf thoseBelow slower
 picks = refl
 
 -- the lent table at exit, of a quorum and the peers: a plan's rows; and what it held, where both peers are silent, and where the quorum is
@@ -172,7 +171,7 @@ table quorum peers = planned (pickOf 3 0 quorum 2 (AtMost 3) 2097152 peers (ofBi
 
 tables : (table 2 both ∷ table 2 (silent ∷ silent ∷ silent ∷ []) ∷ table 4 both ∷ [])
     ≡ ((3 ∷ 0 ∷ 0 ∷ 0 ∷ 1 ∷ 0 ∷ 0 ∷ 0 ∷ 2 ∷ 0 ∷ 0 ∷ 0 ∷ []) ∷ replicate 12 9 ∷ replicate 12 9 ∷ [])
-unfolding wordsOf spelled pickOf pickRefusal peersFit someBelow isPopulation isShards isQuorum isFaultList planOf firstTime commitsAt answeredAt loadsAt runAt runFrom maskBelow eachBelow loadsFor shardLength timesOf timeAt replyTime settled predictOf isFinite add mul div ofInt ofBits toBits le totalLe layoutCommits commits isCovered leaves unionOf count widthOf rowFor rowsOf gather trimmed trimmedIn tried keeps trimOrder peersOf thoseBelow slower lowerBy upperBy
+unfolding wordsOf spelled pickOf pickRefusal peersFit someBelow isPopulation isShards isQuorum isFaultList planOf firstTime commitsAt answeredAt loadsAt runAt runFrom maskBelow eachBelow loadsFor shardLength timesOf timeAt replyTime settled predictOf isFinite add mul div ofInt ofBits toBits le totalLe layoutCommits commits isCovered leaves unionOf count widthOf rowFor rowsOf gather trimmed trimmedIn tried keeps trimOrder peersOf thoseBelow slower
 tables = refl
 
 -- ---- `full_copies`

@@ -8,7 +8,6 @@ use lib.ListN.{getD}
 use Rattle.lists.specs.Below.{eachBelow}
 use Rattle.bitmap.specs.Mask.{hasBit}
 use Rattle.floats.specs.Floats.{plusZero}
-use Rattle.times.specs.declared.PerfModel.{PerfModel}
 use Rattle.times.specs.declared.Peer.the-variants.{Silent, Heard}
 use Rattle.times.specs.declared.PeerRecord.{PeerRecord}
 
@@ -32,13 +31,6 @@ peerAt heard models inflight p = record {
 
 unfoldable pub fromPeers : ℕ → List Float → List ℕ → List PeerRecord
 fromPeers heard models inflight = eachBelow (peerAt heard models inflight) 16
-
--- slope, delay and jitter of the replica p stand at p × 3
-abbrev pub modelAt : List Float → ℕ → PerfModel
-modelAt models p = record { slope = floatAt models (p * 3); delay = floatAt models (p * 3 + 1); jitter = floatAt models (p * 3 + 2) }
-
-unfoldable pub fromModels : List Float → List PerfModel
-fromModels models = eachBelow (modelAt models) 16
 
 unfoldable pub fromInFlight : List ℕ → List ℕ
 fromInFlight inflight = eachBelow (wordAt inflight) 16

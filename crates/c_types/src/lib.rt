@@ -15,7 +15,8 @@ ghost use Rattle.layout_text.specs.LayoutText.{answer as init};
 ghost use Rattle.gossip.specs.Gossip.{gossiped};
 ghost use Rattle.tally.specs.Tally.{answer as told};
 ghost use Rattle.c_types.specs.CTypes.{wordOf, isSet, toTotal, toAnswer, toFlag, toDone, toFloat, toLayout, toPlan, unplannedOf, toChoice, initialOf, toReply, toProfile, fromProfile, numberOf, toReading, toTally, fromTally, tallyLeft, toOpening};
-ghost use Rattle.c_types.specs.Tables.{floatAt, wordAt, peerAt, fromPeers, modelAt, fromModels, fromInFlight, isRecords};
+ghost use Rattle.times.specs.Times.{modelIn, modelsIn};
+ghost use Rattle.c_types.specs.Tables.{floatAt, wordAt, peerAt, fromPeers, fromInFlight, isRecords};
 use adaptive::Floor;
 use adaptive::Policy;
 use assignment::Pick;
@@ -510,7 +511,7 @@ pub fn from_peers(heard: u64, models: &[f64], inflight: &[u64]) -> [PeerRecord; 
 
 fn model_at(models: &[f64], p: usize) -> PerfModel
     requires { ⌜ p < 16 ⌝ }
-    ensures { λ r. ⌜ r ≡ modelAt (now (models .entry)) p ⌝ }
+    ensures { λ r. ⌜ r ≡ modelIn (now (models .entry)) p ⌝ }
 {
     PerfModel {
         slope: float_at(models, p * 3),
@@ -521,7 +522,7 @@ fn model_at(models: &[f64], p: usize) -> PerfModel
 
 // The models of the policy: three floats a replica.
 pub fn from_models(models: &[f64]) -> [PerfModel; 16]
-    ensures { λ r. ⌜ r ≡ fromModels (now (models .entry)) ⌝ }
+    ensures { λ r. ⌜ r ≡ modelsIn (now (models .entry)) ⌝ }
 {
     let mut all = [PerfModel {
         slope: 0.0,

@@ -19,7 +19,8 @@ use Rattle.layout.specs.declared.TotalShards.{TotalShards}
 use Rattle.assignment.specs.Plans.{pickInputCases, pickTableCases, pickRefusal}
 use Rattle.adaptive.specs.Policy.{policyRefusal, policyOf}
 use Rattle.c_types.specs.CTypes.{isSet}
-use Rattle.c_types.specs.Tables.{isRecords, fromPeers, fromModels, fromInFlight}
+use Rattle.times.specs.Times.{modelsIn}
+use Rattle.c_types.specs.Tables.{isRecords, fromPeers, fromInFlight}
 use Rattle.callboard.specs.Interface.{heardCases, planCases, policyIn}
 use Rattle.callboard.specs.InterfaceLaws.{plan-number, entry-number, choice-number}
 use Rattle.callboard.specs.Tests.{isPast, planTables, policyTables, fittingOf}
@@ -96,7 +97,7 @@ module _ (n f own d w majority size adaptive balanced : ℕ) (models : List Floa
   -- the choice of the entry, if the tables fit
   pub policy-in-is : policyIn n f own d w majority size adaptive balanced models inflight alive initial table fits
       ≡ fittingOf (policyTables n (length models) (length inflight) fits)
-      (policyOf n f own d w majority size (fromInFlight inflight) (fromModels models) alive initial table (isSet adaptive) (isSet balanced))
+      (policyOf n f own d w majority size (fromInFlight inflight) (modelsIn models) alive initial table (isSet adaptive) (isSet balanced))
   unfolding policyIn policyOf
   policy-in-is =
       let k = policyRefusal n f own d w majority size (fromInFlight inflight) alive initial table in

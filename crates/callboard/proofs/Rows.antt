@@ -17,7 +17,8 @@ use Rattle.adaptive.specs.Policy.{policyRefusal, policyOf, rowsOf, Holds}
 use Rattle.adaptive.specs.PolicyLaws.{choice-means, initial-means, words-fit}
 use Rattle.adaptive.proofs.Entries.{policy-holds}
 use Rattle.c_types.specs.CTypes.{isSet}
-use Rattle.c_types.specs.Tables.{isRecords, fromModels, fromInFlight}
+use Rattle.times.specs.Times.{modelsIn}
+use Rattle.c_types.specs.Tables.{isRecords, fromInFlight}
 use Rattle.callboard.specs.Interface.{policyIn, copied, rowsLeft}
 use Rattle.callboard.specs.Tests.{policyTables, fittingOf}
 use Rattle.callboard.proofs.Numbers.{policy-in-is}
@@ -31,7 +32,7 @@ all-copied part rows e = rw (eq-eqb (length part) (length rows) e)
 
 module _ (n f own d w majority size adaptive balanced : ℕ) (models : List Float) (inflight : List ℕ) (alive : ℕ) (initial table : List ℕ) where
   abbrev policy : Outcome (Option ℕ)
-  policy = policyOf n f own d w majority size (fromInFlight inflight) (fromModels models) alive initial table (isSet adaptive) (isSet balanced)
+  policy = policyOf n f own d w majority size (fromInFlight inflight) (modelsIn models) alive initial table (isSet adaptive) (isSet balanced)
 
   abbrev fits : Bool → Bool
   fits lent = policyTables n (length models) (length inflight) lent
@@ -56,18 +57,18 @@ module _ (n f own d w majority size adaptive balanced : ℕ) (models : List Floa
       unheld (accepted c) = tt
 
       go : (b : Bool) → o ≡ fittingOf b policy → Holds n d majority o (length initial) (length table)
-      go true e = policy-holds n f own d w majority size (fromInFlight inflight) (fromModels models) alive initial table (isSet adaptive) (isSet balanced) e
+      go true e = policy-holds n f own d w majority size (fromInFlight inflight) (modelsIn models) alive initial table (isSet adaptive) (isSet balanced) e
       go false e = subst (λ (p : Outcome (Option ℕ)). Holds n d majority p (length initial) (length table)) (sym e) (unheld policy)
 
   unrefused : (c : Option ℕ) → policy ≡ accepted c → policyRefusal n f own d w majority size (fromInFlight inflight) alive initial table ≡ 0
-  unrefused none e = initial-means n f own d w majority size (fromInFlight inflight) (fromModels models) alive initial table (isSet adaptive) (isSet balanced) .0 e .0
-  unrefused (some c) e = choice-means n f own d w majority size (fromInFlight inflight) (fromModels models) alive initial table (isSet adaptive) (isSet balanced) c .0 e .unrefused
+  unrefused none e = initial-means n f own d w majority size (fromInFlight inflight) (modelsIn models) alive initial table (isSet adaptive) (isSet balanced) .0 e .0
+  unrefused (some c) e = choice-means n f own d w majority size (fromInFlight inflight) (modelsIn models) alive initial table (isSet adaptive) (isSet balanced) c .0 e .unrefused
 
   -- an accepted choice has n rows
   n-rows : (c : Option ℕ) → policy ≡ accepted c → length (wordsFor (accepted c)) ≡ n * 4
   n-rows c e =
       ap (λ (p : Outcome (Option ℕ)). length (wordsFor p)) (sym e)
-      ∙ words-fit n f own d w majority size (fromInFlight inflight) (fromModels models) alive initial table (isSet adaptive) (isSet balanced) (unrefused c e) .1
+      ∙ words-fit n f own d w majority size (fromInFlight inflight) (modelsIn models) alive initial table (isSet adaptive) (isSet balanced) (unrefused c e) .1
 
   no-words : (rows : List ℕ) → copied (spelled []) rows ≡ rows
   unfolding spelled

@@ -15,7 +15,8 @@ use Rattle.layout.specs.declared.TotalShards.{TotalShards}
 use Rattle.assignment.specs.Plans.{Plan, pickInputCases, pickTableCases, pickOf}
 use Rattle.adaptive.specs.Policy.{policyCases, policyOf, rowsOf}
 use Rattle.c_types.specs.CTypes.{isSet}
-use Rattle.c_types.specs.Tables.{isRecords, fromPeers, fromModels, fromInFlight}
+use Rattle.times.specs.Times.{modelsIn}
+use Rattle.c_types.specs.Tables.{isRecords, fromPeers, fromInFlight}
 
 -- ---- plans
 
@@ -48,7 +49,7 @@ choiceCases n f own d w majority size models inflight alive initial table lent =
 unfoldable pub policyIn : ℕ → ℕ → ℕ → ℕ → ℕ → ℕ → ℕ → ℕ → ℕ → List Float → List ℕ → ℕ → List ℕ → List ℕ → Bool → Outcome (Option ℕ)
 policyIn n f own d w majority size adaptive balanced models inflight alive initial table lent =
     checked (firstOf (choiceCases n f own d w majority size models inflight alive initial table lent))
-    (policyOf n f own d w majority size (fromInFlight inflight) (fromModels models) alive initial table (isSet adaptive) (isSet balanced))
+    (policyOf n f own d w majority size (fromInFlight inflight) (modelsIn models) alive initial table (isSet adaptive) (isSet balanced))
 
 -- a part, copied where it has as many words as the table
 abbrev pub copied : List ℕ → List ℕ → List ℕ

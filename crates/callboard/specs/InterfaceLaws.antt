@@ -17,7 +17,8 @@ use Rattle.layout.specs.declared.TotalShards.{TotalShards}
 use Rattle.assignment.specs.Plans.{Plan, pickInputCases, pickTableCases, pickRefusal, pickOf}
 use Rattle.adaptive.specs.Policy.{policyCases, policyRefusal, policyOf}
 use Rattle.c_types.specs.CTypes.{isSet}
-use Rattle.c_types.specs.Tables.{fromPeers, fromModels, fromInFlight}
+use Rattle.times.specs.Times.{modelsIn}
+use Rattle.c_types.specs.Tables.{fromPeers, fromInFlight}
 use Rattle.callboard.specs.Interface.{heardCases, planCases, pickIn, lentCases, choiceCases, policyIn}
 
 neither : (j k : ℕ) → (otherwise j k ≡ 0) ↔ ((j ≡ 0) × (k ≡ 0))
@@ -115,7 +116,7 @@ module _ (n f own d w majority size adaptive balanced : ℕ) (models : List Floa
 
   abbrev choice : Outcome (Option ℕ)
   choice =
-      policyOf n f own d w majority size (fromInFlight inflight) (fromModels models) alive initial table (isSet adaptive) (isSet balanced)
+      policyOf n f own d w majority size (fromInFlight inflight) (modelsIn models) alive initial table (isSet adaptive) (isSet balanced)
 
   -- accepted is what the entry accepts, of tables that fit
   pub policy-in-means : (o : Option ℕ)

@@ -12,7 +12,6 @@ use lib.Dec.{leb}
 use lib.Ieee.{Float, nan, le}
 use lib.ListN.{length, getD, set}
 use borrow.Author.Tests.{leb-true, lt-ltb, not-true, not-false}
-use Rattle.lists.specs.All.{AllOf}
 use Rattle.lists.specs.First.{firstThat, betterBy}
 use Rattle.lists.specs.FirstLaws.{considered-again, considered-before}
 use Rattle.lists.specs.Sort.{sortedBy}
@@ -27,7 +26,7 @@ use Rattle.times.specs.Times.{never}
 use Rattle.times.specs.TimeLaws.{place-within}
 use Rattle.candidates.specs.Search.{runAt, answers, loadAt, candidates}
 use Rattle.candidates.specs.Repeats.{repeatsAt, isRepeat}
-use Rattle.candidates.specs.SearchLaws.{candidates-fit, peer-run}
+use Rattle.candidates.specs.SearchLaws.{peer-run}
 
 -- ---- `run_at`: the place where a peer's times begin
 pub begins : (p d : ℕ) → p * (d + 1) ≡ p * suc d
@@ -111,8 +110,8 @@ module _ (commits : Float → Bool) where
       go true p q = q
       go false p q = p
 
-  pub least-found : (times : List Float) → AllOf Fits times → foldl step none times ≡ firstThat commits (sortedBy totalLe (candidates times))
-  least-found times a = over none times ∙ sym (first-is-least commits (candidates times) (candidates-fit times a))
+  pub least-found : (times : List Float) → foldl step none times ≡ firstThat commits (sortedBy totalLe (candidates times))
+  least-found times = over none times ∙ sym (first-is-least commits (candidates times))
 
   -- ---- the times that have been considered: each of them changes nothing when it is considered again
   module _ (times : List Float) where

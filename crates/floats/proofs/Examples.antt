@@ -4,7 +4,7 @@ use mathlib.Core.List.{[], _∷_, map}
 use mathlib.Core.Bool.{true, false}
 use lib.IntN.{pos}
 use lib.Ieee.{Float, nan, inf, fin, isNan, le}
-use Rattle.lists.specs.Sort.{lowerBy, upperBy, sortedBy}
+use Rattle.lists.specs.Sort.{sortedBy}
 use Rattle.floats.specs.Floats.{plusZero, one, totalLe, larger, isProbability}
 
 abbrev minusZero : Float
@@ -12,7 +12,7 @@ minusZero = fin true 0 (pos 0)
 
 -- total order of one value of each kind
 order : sortedBy totalLe (nan ∷ plusZero ∷ inf false ∷ minusZero ∷ one ∷ inf true ∷ []) ≡ inf true ∷ minusZero ∷ plusZero ∷ one ∷ inf false ∷ nan ∷ []
-unfolding lowerBy upperBy totalLe
+unfolding totalLe
 order = refl
 
 -- zeros of opposite sign give +0, whichever stands first; a NaN second is ignored

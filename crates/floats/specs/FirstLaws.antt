@@ -5,19 +5,18 @@ use mathlib.Core.Bool.{Bool, true, false, not, cond, _&&_}
 use mathlib.Core.Option.{Option, none, some}
 use lib.Dec.{T}
 use lib.Ieee.{Float, binary64, fits}
-use Rattle.lists.specs.All.{AllOf}
 use Rattle.lists.specs.First.{firstThat, betterBy, leastThat}
 use Rattle.lists.specs.FirstLaws
 use Rattle.lists.specs.Sort.{sortedBy}
 use Rattle.floats.specs.Floats.{totalLe, precedes}
-use Rattle.floats.specs.OrderLaws.{total, trans, antisym}
+use Rattle.floats.specs.OrderLaws.{total, trans}
 
 -- a double
 abbrev pub Fits : Float → Type 0
 Fits x = T (fits binary64 x)
 
-pub first-is-least : (t : Float → Bool) (xs : List Float) → AllOf Fits xs → firstThat t (sortedBy totalLe xs) ≡ leastThat totalLe t xs
-first-is-least t xs f = FirstLaws.first-is-least totalLe total trans Fits antisym t xs f
+pub first-is-least : (t : Float → Bool) (xs : List Float) → firstThat t (sortedBy totalLe xs) ≡ leastThat totalLe t xs
+first-is-least t xs = FirstLaws.first-is-least totalLe total trans t xs
 
 -- one more element: it is taken if it passes and stands before what was found, so only then need it be tested
 pub taken-means : (t : Bool) (best : Option Float) (x : Float) → cond t (betterBy totalLe best x) best ≡ cond (precedes x best && t) (some x) best

@@ -44,6 +44,13 @@ total (fin s m e) (inf true) p = refl
 total (fin s m e) (inf false) p = no' p
 total (fin s m e) (fin t n d) p = signed-total s (m * up e * down d) t (n * up d * down e) p
 
+-- nothing else is above a NaN
+pub nan-above : (x : Float) → totalLe nan x ≡ true → x ≡ nan
+unfolding totalLe
+nan-above nan p = refl
+nan-above (inf t) p = no p
+nan-above (fin t n d) p = no p
+
 self : (x : Float) → totalLe x x ≡ true
 self x = go (totalLe x x) refl
   where

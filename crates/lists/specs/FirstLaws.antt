@@ -11,9 +11,9 @@ use native.Mathlib.Nat.{le-refl, le-of-suc-le-suc, eq-or-lt-of-le}
 use native.Mathlib.Omega.{arith}
 use Rattle.lists.specs.All.{AllOf}
 use Rattle.lists.specs.AllLaws.{all-of-listed}
-use Rattle.lists.specs.Sort.{lowerBy, upperBy, insertBy, sortOntoBy, sortedBy}
+use Rattle.lists.specs.Sort.{insertBy, sortOntoBy, sortedBy}
 use Rattle.lists.specs.First.{firstThat, betterBy, leastThat, leastUpTo}
-use Rattle.lists.specs.SortLaws.{parted, reflexive, AtLeast, Ordered, insert-ordered, sorted-ordered, sorted-listed}
+use Rattle.lists.specs.SortLaws.{placed-where, reflexive, AtLeast, Ordered, insert-ordered, sorted-ordered, sorted-listed}
 
 -- ---- what was considered once changes nothing when it is considered again
 module _ {A : Type 0} (le : A → A → Bool) (total : (x y : A) → le x y ≡ false → le y x ≡ true) (trans : (x y z : A) → le x y ≡ true → le y z ≡ true → le x z ≡ true)
@@ -54,84 +54,64 @@ module _ {A : Type 0} (le : A → A → Bool) (total : (x y : A) → le x y ≡ 
       go true true (some c) h = moved c (le c x) refl (at-most c (le c y) refl h)
       go true false (some c) h = h
 
--- an order that is total and transitive, and that tells any two elements apart of which F holds
-module _ {A : Type 0} (le : A → A → Bool) (total : (x y : A) → le x y ≡ false → le y x ≡ true) (trans : (x y z : A) → le x y ≡ true → le y z ≡ true → le x z ≡ true)
-    (F : A → Type 0) (antisym : (x y : A) → F x → F y → le x y ≡ true → le y x ≡ true → x ≡ y) where
-  insert-all : (x : A) (l : List A) → F x → AllOf F l → AllOf F (insertBy le x l)
-  insert-all x [] f a = (f, tt)
-  insert-all x (y ∷ ys) f a = elim (parted le total y x) [
-    | inl p ↦ (rw (p .low) (a .0), insert-all (upperBy le y x) ys (rw (p .high) f) (a .1))
-    | inr p ↦ (rw (p .low) f, insert-all (upperBy le y x) ys (rw (p .high) (a .0)) (a .1))
-  ]
-
+module _ {A : Type 0} (le : A → A → Bool) (total : (x y : A) → le x y ≡ false → le y x ≡ true) (trans : (x y z : A) → le x y ≡ true → le y z ≡ true → le x z ≡ true) where
   module _ (t : A → Bool) where
-    -- what is found in a list is at least what each element of it is at least
+    -- y is at most all that may have been found
     abbrev Above : A → Option A → Type 0
     Above y none = Unit
-    Above y (some b) = (le y b ≡ true) × F b
+    Above y (some b) = le y b ≡ true
 
-    first-above : (y : A) (l : List A) → AtLeast le y l → AllOf F l → Above y (firstThat t l)
-    first-above y [] h a = tt
-    first-above y (x ∷ xs) h a = go (t x) (first-above y xs (h .1) (a .1))
+    first-above : (y : A) (l : List A) → AtLeast le y l → Above y (firstThat t l)
+    first-above y [] h = tt
+    first-above y (x ∷ xs) h = go (t x) (first-above y xs (h .1))
       where
         go : (b : Bool) → Above y (firstThat t xs) → Above y (cond b (some x) (firstThat t xs))
-        go true r = (h .0, a .0)
+        go true r = h .0
         go false r = r
 
-    -- y is at most all that may have been found: then it is the better one
-    better-below : (y : A) (r : Option A) → F y → Above y r → betterBy le r y ≡ some y
-    better-below y none f h = refl
-    better-below y (some b) f h = go (le b y) refl
-      where
-        go : (v : Bool) → le b y ≡ v → cond v (some b) (some y) ≡ some y
-        go true e = ap some (antisym b y (h .1) f e (h .0))
-        go false e = refl
-
-    -- x is strictly below y, which is at most all that may have been found
+    -- x is strictly below y, which is at most all that may have been found: then it is the better one
     better-strict : (x y : A) (r : Option A) → le y x ≡ false → Above y r → betterBy le r x ≡ some x
     better-strict x y none n h = refl
     better-strict x y (some b) n h = go (le b x) refl
       where
         go : (v : Bool) → le b x ≡ v → cond v (some b) (some x) ≡ some x
-        go true e = absurd (true≢false (sym (trans y b x (h .0) e) ∙ n))
+        go true e = absurd (true≢false (sym (trans y b x h e) ∙ n))
         go false e = refl
 
     -- what one element more does to what is found
     abbrev stepBy : Option A → A → Option A
     stepBy best x = cond (t x) (betterBy le best x) best
 
-    module _ (x y : A) (ys : List A) (a : AllOf F (y ∷ ys)) (o : Ordered le (y ∷ ys)) where
-      kept-first : (u w : Bool) → le y x ≡ true → firstThat t (insertBy le x ys) ≡ cond u (betterBy le (firstThat t ys) x) (firstThat t ys)
+    module _ (x y : A) (ys : List A) (o : Ordered le (y ∷ ys)) where
+      after-first : (u w : Bool) → le y x ≡ true → firstThat t (insertBy le x ys) ≡ cond u (betterBy le (firstThat t ys) x) (firstThat t ys)
           → cond w (some y) (firstThat t (insertBy le x ys)) ≡ cond u (betterBy le (cond w (some y) (firstThat t ys)) x) (cond w (some y) (firstThat t ys))
-      kept-first true true e ih = rw e
-      kept-first false true e ih = refl
-      kept-first u false e ih = ih
+      after-first true true e ih = rw e
+      after-first false true e ih = refl
+      after-first u false e ih = ih
 
-      swapped-first : (u w : Bool) → le y x ≡ false → firstThat t (insertBy le y ys) ≡ cond w (betterBy le (firstThat t ys) y) (firstThat t ys) → Above y (cond w (some y) (firstThat t ys))
-          → cond u (some x) (firstThat t (insertBy le y ys)) ≡ cond u (betterBy le (cond w (some y) (firstThat t ys)) x) (cond w (some y) (firstThat t ys))
-      swapped-first true w e ih h = sym (better-strict x y (cond w (some y) (firstThat t ys)) e h)
-      swapped-first false true e ih h = ih ∙ better-below y (firstThat t ys) (a .0) (first-above y ys (o .0) (a .1))
-      swapped-first false false e ih h = ih
+      before-first : (u : Bool) (r : Option A) → le y x ≡ false → Above y r → cond u (some x) r ≡ cond u (betterBy le r x) r
+      before-first true r e h = sym (better-strict x y r e h)
+      before-first false r e h = refl
 
-    insert-first : (x : A) (l : List A) → F x → AllOf F l → Ordered le l → firstThat t (insertBy le x l) ≡ stepBy (firstThat t l) x
-    unfolding lowerBy upperBy
-    insert-first x [] f a o = refl
-    insert-first x (y ∷ ys) f a o = go (le y x) refl (insert-first x ys f (a .1) (o .1)) (insert-first y ys (a .0) (a .1) (o .1))
-      where
-        go : (v : Bool) → le y x ≡ v → firstThat t (insertBy le x ys) ≡ stepBy (firstThat t ys) x → firstThat t (insertBy le y ys) ≡ stepBy (firstThat t ys) y
-            → firstThat t (cond v y x ∷ insertBy le (cond v x y) ys) ≡ stepBy (firstThat t (y ∷ ys)) x
-        go true e p q = kept-first x y ys a o (t x) (t y) e p
-        go false e p q = swapped-first x y ys a o (t x) (t y) e q (first-above y (y ∷ ys) (reflexive le total y, o .0) a)
+    insert-first : (x : A) (l : List A) → Ordered le l → firstThat t (insertBy le x l) ≡ stepBy (firstThat t l) x
+    insert-first x [] o = refl
+    insert-first x (y ∷ ys) o =
+        let ih = insert-first x ys (o .1) in
+        placed-where le x y ys (λ l. firstThat t l ≡ stepBy (firstThat t (y ∷ ys)) x) (λ e. after-first x y ys o (t x) (t y) e ih)
+        (λ e. before-first x y ys o (t x) (firstThat t (y ∷ ys)) e (first-above y (y ∷ ys) (reflexive le total y, o .0)))
 
-    onto-first : (acc xs : List A) → AllOf F acc → Ordered le acc → AllOf F xs → firstThat t (sortOntoBy le acc xs) ≡ foldl stepBy (firstThat t acc) xs
-    onto-first acc [] a o f = refl
-    onto-first acc (x ∷ xs) a o f =
-        onto-first (insertBy le x acc) xs (insert-all x acc (f .0) a) (insert-ordered le total trans x acc o) (f .1)
-        ∙ ap (λ (b : Option A). foldl stepBy b xs) (insert-first x acc (f .0) a o)
+    onto-first : (acc xs : List A) → Ordered le acc → firstThat t (sortOntoBy le acc xs) ≡ foldl stepBy (firstThat t acc) xs
+    onto-first acc [] o = refl
+    onto-first acc (x ∷ xs) o =
+        onto-first (insertBy le x acc) xs (insert-ordered le total trans x acc o) ∙ ap (λ (b : Option A). foldl stepBy b xs) (insert-first x acc o)
 
-    pub first-is-least : (xs : List A) → AllOf F xs → firstThat t (sortedBy le xs) ≡ leastThat le t xs
-    first-is-least xs f = onto-first [] xs tt tt f
+    pub first-is-least : (xs : List A) → firstThat t (sortedBy le xs) ≡ leastThat le t xs
+    first-is-least xs = onto-first [] xs tt
 
+-- an order that also tells any two elements apart of which F holds
+module _ {A : Type 0} (le : A → A → Bool) (total : (x y : A) → le x y ≡ false → le y x ≡ true) (trans : (x y z : A) → le x y ≡ true → le y z ≡ true → le x z ≡ true)
+    (F : A → Type 0) (antisym : (x y : A) → F x → F y → le x y ≡ true → le y x ≡ true → x ≡ y) where
+  module _ (t : A → Bool) where
     -- ---- what the first is
 
     -- x is in the list and passes, and each element of the list that passes is x or stands after it
@@ -184,14 +164,14 @@ module _ {A : Type 0} (le : A → A → Bool) (total : (x y : A) → le x y ≡ 
     -- none is found exactly if no element passes
     pub none-means : (xs : List A) → (firstThat t (sortedBy le xs) ≡ none) ↔ ((y : A) → List·Memᴰ y xs → t y ≡ false)
     none-means xs = (
-      λ e y m. none-passes (sortedBy le xs) e y (sorted-listed le total y xs .1 m),
-      λ h. none-found (sortedBy le xs) (λ y m. h y (sorted-listed le total y xs .0 m)),
+      λ e y m. none-passes (sortedBy le xs) e y (sorted-listed le y xs .1 m),
+      λ h. none-found (sortedBy le xs) (λ y m. h y (sorted-listed le y xs .0 m)),
     )
 
     found-first : (xs : List A) (x : A) → firstThat t (sortedBy le xs) ≡ some x → FirstIn xs x
     found-first xs x e =
         let f = ordered-first (sortedBy le xs) x (sorted-ordered le total trans xs) e in
-        record { listed = sorted-listed le total x xs .0 (f .listed); passes = f .passes; first = λ y m. f .first y (sorted-listed le total y xs .1 m) }
+        record { listed = sorted-listed le x xs .0 (f .listed); passes = f .passes; first = λ y m. f .first y (sorted-listed le y xs .1 m) }
 
     first-found : (xs : List A) (x : A) → AllOf F xs → FirstIn xs x → firstThat t (sortedBy le xs) ≡ some x
     first-found xs x a f = go (firstThat t (sortedBy le xs)) refl

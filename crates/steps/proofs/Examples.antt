@@ -5,7 +5,6 @@ use Prim.Native.Nat.{ℕ}
 use lib.Ieee.{binary64, add, mul, div, ofInt, ofBits, toBits}
 use Rattle.lists.specs.Below.{eachBelow}
 use Rattle.lists.specs.First.{leastUpTo}
-use Rattle.lists.specs.Sort.{lowerBy, upperBy}
 use Rattle.floats.specs.Floats.{totalLe}
 use Rattle.times.specs.declared.PerfModel.{PerfModel}
 use Rattle.times.specs.Times.{predictOf}
@@ -111,5 +110,5 @@ sheet =
     ∷ []
 
 chosen : map {B = ℕ × List ℕ} (λ (l : Line). (bestStep (l .n) (l .f) (l .own) (l .d) (l .majority) (l .size) (l .inflight) (l .models), eachBelow (λ (i : ℕ). toBits binary64 (timeOfStep (l .n) (l .f) (l .own) (l .d) (l .majority) (l .size) (l .inflight) (l .models) i)) (steps (l .d) (l .majority)))) sheet ≡ map {B = ℕ × List ℕ} (λ (l : Line). (l .best, l .says)) sheet
-unfolding line sheet bestStep timeOfStep stepTime peerTimes eachBelow leastUpTo lowerBy upperBy totalLe predictOf add mul div ofInt ofBits toBits
+unfolding line sheet bestStep timeOfStep stepTime peerTimes eachBelow leastUpTo totalLe predictOf add mul div ofInt ofBits toBits
 chosen = refl

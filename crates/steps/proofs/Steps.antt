@@ -1,22 +1,98 @@
 -- How the code of the steps comes to what the definitions say. The premises are the fields of a need's record. Assumes nothing.
-use mathlib.Core.Path.{_≡_, sym, _∙_}
+use mathlib.Core.Path.{_≡_, refl, sym, ap, _∙_}
 use mathlib.Core.List.{List}
 use Prim.Native.Nat.{ℕ, _+_, _-_, _*_, _/_, _%_, _^_, _≤_, _<_}
-use native.Mathlib.Nat.{div-le-self, mul-le-mul}
+use native.Mathlib.Nat.{div-le-self, mul-assoc, mul-comm, mul-le-mul}
+use native.Mathlib.Decide.{ℕ-discrete}
 use native.Mathlib.Numerals.{add-one}
 use native.Mathlib.Omega.{arith}
-use lib.Ieee.{Float}
-use lib.ListN.{length, getD}
+use lib.Ieee.{Float, nan, binary64, div, ofBits}
+use lib.ListN.{length, getD, set, length-set}
+use lib.Seq.{getD-set-same, getD-set-other, ext-getD}
 use borrow.Author.Tests.{le-ltb}
 use Rattle.lists.specs.AllLaws.{inside-any}
+use Rattle.lists.specs.Below.{eachBelow}
+use Rattle.lists.specs.BelowLaws.{each-below-length, each-below-at}
 use Rattle.lists.specs.Sort.{sortedBy}
-use Rattle.floats.specs.Floats.{totalLe}
+use Rattle.floats.specs.Floats.{plusZero, totalLe}
 use Rattle.refusals.specs.LimitLaws.{InFlight}
 use Rattle.refusals.specs.Limits.{mostShards}
 use Rattle.times.specs.declared.PerfModel.{PerfModel}
-use Rattle.times.specs.Times.{never, predictOf}
-use Rattle.steps.specs.Steps.{peerAt, inFlight, still, peerTime, peerTimes, stepTime, stepShards, bestStep}
+use Rattle.times.specs.Times.{never, predictOf, modelIn, modelsIn}
+use Rattle.steps.specs.Steps.{peerAt, inFlight, still, peerTime, peerTimes, stepTime, stepShards, timeOfStep, bestStep}
 use Rattle.steps.specs.StepLaws.{shares-positive, steps-all, step-shards-le, peer-below, peer-not-own, best-step-means}
+
+-- ---- models as numbers
+abbrev model : Float → Float → Float → PerfModel
+model a b c = record { slope = a; delay = b; jitter = c }
+
+same-model : {a b c a′ b′ c′ : Float} → a ≡ a′ → b ≡ b′ → c ≡ c′ → model a b c ≡ model a′ b′ c′
+same-model e f g = rw (e, f, g)
+
+-- the defaults of reading do not matter
+pub model-read : (l : List Float) (p : ℕ) (d : Float) → length l ≡ 48 → p < 16 → model (getD l (p * 3) d) (getD l (p * 3 + 1) d) (getD l (p * 3 + 2) d) ≡ modelIn l p
+model-read l p d h k =
+    same-model (inside-any l (p * 3) d plusZero (omega arith)) (inside-any l (p * 3 + 1) d plusZero (omega arith))
+    (inside-any l (p * 3 + 2) d plusZero (omega arith))
+
+-- three numbers written
+module _ (l : List Float) (p : ℕ) (m : PerfModel) where
+  abbrev one : List Float
+  one = set l (p * 3) (m .slope)
+
+  abbrev two : List Float
+  two = set one (p * 3 + 1) (m .delay)
+
+  abbrev three : List Float
+  three = set two (p * 3 + 2) (m .jitter)
+
+  module _ (long : length l ≡ 48) (place : p < 16) where
+    three-long : length three ≡ 48
+    three-long = simp length-set long
+
+    here : modelIn three p ≡ m
+    here =
+        same-model
+        (getD-set-other two (p * 3 + 2) (p * 3) (m .jitter) plusZero (λ e. omega arith)
+        ∙ getD-set-other one (p * 3 + 1) (p * 3) (m .delay) plusZero (λ e. omega arith) ∙ getD-set-same l (p * 3) (m .slope) plusZero (omega arith))
+        (getD-set-other two (p * 3 + 2) (p * 3 + 1) (m .jitter) plusZero (λ e. omega arith)
+        ∙ getD-set-same one (p * 3 + 1) (m .delay) plusZero (simp length-set (omega arith)))
+        (getD-set-same two (p * 3 + 2) (m .jitter) plusZero (simp length-set (omega arith)))
+
+    before : (j : ℕ) → j < p * 3 → getD three j plusZero ≡ getD l j plusZero
+    before j h =
+        getD-set-other two (p * 3 + 2) j (m .jitter) plusZero (λ e. omega arith)
+        ∙ getD-set-other one (p * 3 + 1) j (m .delay) plusZero (λ e. omega arith) ∙ getD-set-other l (p * 3) j (m .slope) plusZero (λ e. omega arith)
+
+module _ (models : List PerfModel) where
+  -- those below p
+  abbrev pub Numbered : List Float → ℕ → Type 0
+  Numbered l p = (p ≤ 16) × (length l ≡ 48) × ((k : ℕ) → k < p → modelIn l k ≡ getD models k still)
+
+  pub numbered-none : (l : List Float) → length l ≡ 48 → Numbered l 0
+  numbered-none l h = (omega arith, h, λ k g. absurd (omega arith))
+
+  pub numbered-more : (l : List Float) (p : ℕ) (d : PerfModel) → Numbered l p → p < 16 → length models ≡ 16
+      → Numbered (three l p (getD models p d)) (p + 1)
+  numbered-more l p d s h n = (omega arith, three-long l p m (s .1) h, λ k g. go k (ℕ-discrete k p) (omega arith))
+    where
+      m : PerfModel
+      m = getD models p d
+
+      e : m ≡ getD models p still
+      e = inside-any models p d still (omega arith)
+
+      go : (k : ℕ) → Dec (k ≡ p) → k ≤ p → modelIn (three l p m) k ≡ getD models k still
+      go k (yes q) g = rw q (here l p m (s .1) h ∙ e)
+      go k (no q) g =
+          let b = before l p m (s .1) h in
+          same-model (b (k * 3) (omega arith)) (b (k * 3 + 1) (omega arith)) (b (k * 3 + 2) (omega arith)) ∙ s .2 k (omega arith)
+
+  pub numbered-done : (l : List Float) (p : ℕ) → Numbered l p → 16 ≤ p → length models ≡ 16 → modelsIn l ≡ models
+  unfolding modelsIn
+  numbered-done l p s h e =
+      ext-getD still (eachBelow (modelIn l) 16) models (each-below-length (modelIn l) 16 ∙ sym e)
+      (λ i g. let q : i < 16 = omega (arith, each-below-length (modelIn l) 16) in each-below-at (modelIn l) 16 i still q ∙ s .2 i (omega arith))
 
 -- ---- the j-th of m peers, p, and its time; L is the length of the lent list
 module _ (own j p L m : ℕ) (small : j < L) (same : L ≡ m) (place : p ≡ peerAt own j) where
@@ -26,9 +102,12 @@ module _ (own j p L m : ℕ) (small : j < L) (same : L ≡ m) (place : p ≡ pee
   pub peer-load : (inflight : List ℕ) → InFlight (m + 1) own (inFlight inflight) → inFlight inflight p ≤ 2 ^ 40
   peer-load inflight h = h p peer-inside (λ (e : p ≡ own). peer-not-own own j (rw place at e))
 
-  pub peer-time : (load : ℕ) (inflight : List ℕ) (models : List PerfModel) (d : PerfModel) (x : Float) → m < length models
-      → x ≡ predictOf (getD models p d) (inFlight inflight p + load) → x ≡ peerTime load inflight models (peerAt own j)
-  peer-time load inflight models d x h e = e ∙ rw (inside-any models p d still (omega (arith, peer-inside)), place)
+  pub peer-time : (load : ℕ) (inflight : List ℕ) (numbers : List Float) (m′ : PerfModel) (x : Float) → m < 16 → m′ ≡ modelIn numbers p
+      → x ≡ predictOf m′ (inFlight inflight p + load) → x ≡ peerTime load inflight (modelsIn numbers) (peerAt own j)
+  unfolding modelsIn
+  peer-time load inflight numbers m′ x h g e =
+      let q : m′ ≡ getD (modelsIn numbers) p still = g ∙ sym (each-below-at (modelIn numbers) 16 p still (omega (arith, peer-inside))) in
+      e ∙ rw (q, place)
 
 -- ---- a step's time: m peers' times, lent to be sorted, sorted, and lent to be read
 module _ (n own q load m : ℕ) (inflight : List ℕ) (models : List PerfModel) (several : 2 ≤ q) (peers : n - 1 ≡ m) where
@@ -37,12 +116,37 @@ module _ (n own q load m : ℕ) (inflight : List ℕ) (models : List PerfModel) 
   unfolding stepTime
   step-is times unsorted sorted read r t u s w e = rw (le-ltb q 2 several, peers, e, w, s, u, t)
 
--- ---- the load of a step is within bounds
-pub load-le : (d majority i size : ℕ) → i < majority → d ≤ mostShards → size ≤ 2 ^ 30 → (size / d + 1) * stepShards d majority i ≤ 2 ^ 40
-load-le d majority i size h e g =
-    let a : size / d + 1 ≤ 2 ^ 30 + 1 = omega (arith, div-le-self size d) in
-    let b : stepShards d majority i ≤ 255 = omega (arith, step-shards-le d majority i h) in
-    omega (arith, mul-le-mul a b)
+-- ---- the load of a step: one share more from step to step
+module _ (d majority size : ℕ) where
+  abbrev pub loadOf : ℕ
+  loadOf = (size / d + 1) * (d / majority)
+
+  pub shared-load : d ≤ mostShards → size ≤ 2 ^ 30 → loadOf ≤ 2 ^ 40
+  shared-load e g =
+      let a : size / d + 1 ≤ 2 ^ 30 + 1 = omega (arith, div-le-self size d) in
+      let b : d / majority ≤ 255 = omega (arith, div-le-self d majority) in
+      omega (arith, mul-le-mul a b)
+
+  module _ (i : ℕ) where
+    -- of i + 1 shares
+    shares : loadOf * (i + 1) ≡ (size / d + 1) * stepShards d majority i
+    shares = mul-assoc (size / d + 1) (d / majority) (i + 1) ∙ ap (λ (k : ℕ). (size / d + 1) * k) (mul-comm (d / majority) (i + 1))
+
+    pub timed : (n f own : ℕ) (inflight : List ℕ) (models : List PerfModel) (t : Float)
+        → t ≡ stepTime n own (majority + f - i) (loadOf * (i + 1)) inflight models → t ≡ timeOfStep n f own d majority size inflight models i
+    unfolding timeOfStep
+    timed n f own inflight models t e = e ∙ ap (λ (k : ℕ). stepTime n own (majority + f - i) k inflight models) shares
+
+    pub shared-load-le : i < majority → d ≤ mostShards → size ≤ 2 ^ 30 → loadOf * (i + 1) ≤ 2 ^ 40
+    shared-load-le h e g =
+        let a : size / d + 1 ≤ 2 ^ 30 + 1 = omega (arith, div-le-self size d) in
+        let b : stepShards d majority i ≤ 255 = omega (arith, step-shards-le d majority i h) in
+        omega (arith, mul-le-mul a b, shares)
+
+-- ---- above every time
+pub no-number : div binary64 (ofBits binary64 0) (ofBits binary64 0) ≡ nan
+unfolding div ofBits
+no-number = refl
 
 -- ---- the step chosen is below the majority
 module _ (n f own d majority size : ℕ) (inflight : List ℕ) (models : List PerfModel) (some : 0 < d) (multiple : d % majority ≡ 0) (i : ℕ)

@@ -6,7 +6,6 @@ use Prim.Native.Nat.{ℕ}
 use lib.IntN.{pos}
 use lib.Ieee.{Float, inf, fin, binary64, ofBits}
 use Rattle.lists.specs.Below.{thoseBelow, eachBelow}
-use Rattle.lists.specs.Sort.{lowerBy, upperBy}
 use Rattle.floats.specs.Floats.{totalLe}
 use Rattle.bitmap.specs.Mask.{gather, count}
 use Rattle.coverage.specs.Coverage.{unionOf, leaves, isCovered, commits}
@@ -75,7 +74,7 @@ orders =
     ∷ []
 
 ordered : map (λ (l : Peers). trimOrder (l .n) (l .own) (l .d) (l .times)) orders ≡ map (λ (l : Peers). l .says) orders
-unfolding ms minus silence ofOne peers orders trimOrder peersOf thoseBelow slower lowerBy upperBy totalLe ofBits
+unfolding ms minus silence ofOne peers orders trimOrder peersOf thoseBelow slower totalLe ofBits
 ordered = refl
 
 -- ---- trimmed loads

@@ -8,7 +8,6 @@ use Prim.Native.String.{String}
 use lib.ListN.{length, take, replicate}
 use lib.Ieee.{binary64, add, mul, div, ofInt, ofBits, toBits, le}
 use Rattle.lists.specs.Below.{someBelow, thoseBelow, runFrom, eachBelow, front}
-use Rattle.lists.specs.Sort.{lowerBy, upperBy}
 use Rattle.bitmap.specs.Mask.{withBit, allBelow, count, maskBelow, gather}
 use Rattle.rows.specs.Row.{value, wordsOf, rowIn, rowsIn, spelled}
 use Rattle.refusals.specs.Outcome.{Outcome, refused, accepted, andThen}
@@ -161,6 +160,6 @@ unfolding sheet answer faultsFor value wordsOf rowIn rowsIn spelled
     Family.familyOf Family.isSized Family.isAmong Family.isProbable Family.timesOf mul count
     coversOf coversRefusal isFaultList isCovered leaves unionOf commits
     pickOf pickRefusal peersFit isQuorum planOf firstTime commitsAt answeredAt loadsAt runAt runFrom maskBelow loadsFor shardLength timesOf timeAt replyTime settled
-    predictOf isFinite add div ofInt ofBits toBits totalLe layoutCommits trimmed trimmedIn tried keeps trimOrder peersOf slower lowerBy upperBy
+    predictOf isFinite add div ofInt ofBits toBits totalLe layoutCommits trimmed trimmedIn tried keeps trimOrder peersOf slower
     gossipOf exclusionsLeft gossipRefusal walk turns round ring visit met
 sheet-holds = refl

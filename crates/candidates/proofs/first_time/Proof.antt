@@ -10,10 +10,8 @@ use borrow.Author.Needs.{needs}
 use borrow.Author.Tests.{not-false}
 use lib.Ieee.{nan, Float}
 use lib.ListN.{length, drop, getD}
-use Rattle.lists.specs.AllLaws.{all-of-means}
 use Rattle.lists.proofs.Loops.{fold-step, fold-done}
 use Rattle.floats.specs.Floats.{found}
-use Rattle.floats.specs.FirstLaws.{Fits}
 use Rattle.candidates.specs.Search.{commitsAt, firstTime}
 use Rattle.candidates.proofs.Parts.{step, least-found, Settled, more-settled, repeated}
 use Rattle.candidates.proofs.first_time.Statement.{statement}
@@ -63,4 +61,4 @@ first-time-spec =
     let a = l .before .before .before .args in
     let t = commitsAt (a .n) (a .own .0) (a .quorum) (a .d) (a .total) (a .faults .now) (a .times .now) in
     sym (fold-done (step t) (found (l .loop .best)) (a .times .now) (l .loop .i) (c .loop-test .left)) ∙ l .loop .inv .1
-    ∙ least-found t (a .times .now) (all-of-means Fits nan (a .times .now) .1 (λ i h. l .before .shared-slice-known2 .given i))))
+    ∙ least-found t (a .times .now)))
