@@ -9,6 +9,7 @@ use native.Mathlib.Nat.{mul-le-mul, div-le-self, sub-eq-zero-of-le}
 use native.Mathlib.Numerals.{add-one}
 use native.Mathlib.Omega.{arith}
 use lib.Dec.{leb, eqb}
+use lib.Ieee.{Float}
 use lib.ListN.{length, take, drop}
 use borrow.Author.Tests.{le-leb, lt-leb, eq-eqb, ne-eqb, not-true, not-false}
 use Rattle.refusals.specs.First.{Case}
@@ -19,7 +20,6 @@ use Rattle.rows.specs.Row.{rowsIn, spelled}
 use Rattle.rows.specs.WordLaws.{Words}
 use Rattle.rows.specs.TableLaws.{rows-spelled, part-spelled}
 use Rattle.refusals.specs.Limits.{mostShards}
-use Rattle.times.specs.declared.PerfModel.{PerfModel}
 use Rattle.adaptive.specs.declared.Policy.{Policy}
 use Rattle.adaptive.specs.declared.Policy.the-variants.{Initial, Balanced}
 use Rattle.adaptive.specs.Floor.{floorOf}
@@ -107,41 +107,41 @@ module _ (n d majority : ℕ) (choice : Policy) (initial table : List ℕ) (h : 
     part-taken words part q = rw e (q ∙ part-spelled table (n * suc (d - d / majority)) ((shards - d / majority) * n) n words (held .5))
 
 -- ---- `pick_assignment_policy`: got is the number that refuses, or 0
-module _ (n f own d w majority size : ℕ) (inflight : List ℕ) (alive : ℕ) (initial table : List ℕ) (got : ℕ)
-    (e : got ≡ policyRefusal n f own d w majority size inflight alive initial table) where
-  abbrev Answer : List PerfModel → Bool → Bool → Outcome (Option ℕ) → Type 0
-  Answer models adaptive balanced o = o ≡ policyOf n f own d w majority size inflight models alive initial table adaptive balanced
+module _ (n f own d w majority size : ℕ) (inflight : List ℕ) (models : List Float) (alive : ℕ) (initial table : List ℕ) (got : ℕ)
+    (e : got ≡ policyRefusal n f own d w majority size inflight models alive initial table) where
+  abbrev Answer : Bool → Bool → Outcome (Option ℕ) → Type 0
+  Answer adaptive balanced o = o ≡ policyOf n f own d w majority size inflight models alive initial table adaptive balanced
 
-  pub policy-refused : (models : List PerfModel) (adaptive balanced : Bool) → (got ≡ 0 → ⊥) → Answer models adaptive balanced (refused got)
+  pub policy-refused : (adaptive balanced : Bool) → (got ≡ 0 → ⊥) → Answer adaptive balanced (refused got)
   unfolding policyOf
-  policy-refused models adaptive balanced h = is-refused _ got _ e h
+  policy-refused adaptive balanced h = is-refused _ got _ e h
 
   module _ (z : got ≡ 0) where
     -- what has been tested
-    pub tested : PolicySound n f own d w majority size inflight alive initial table
-    tested = policy-sound n f own d w majority size inflight alive initial table .0 (sym e ∙ z)
+    pub tested : PolicySound n f own d w majority size inflight models alive initial table
+    tested = policy-sound n f own d w majority size inflight models alive initial table .0 (sym e ∙ z)
 
-    pub unbalanced : (models : List PerfModel) (adaptive balanced : Bool) → not balanced ≡ true → Answer models adaptive balanced (accepted none)
+    pub unbalanced : (adaptive balanced : Bool) → not balanced ≡ true → Answer adaptive balanced (accepted none)
     unfolding policyOf
-    unbalanced models adaptive balanced b = is-accepted _ got _ none e z (rw (not-true balanced b))
+    unbalanced adaptive balanced b = is-accepted _ got _ none e z (rw (not-true balanced b))
 
     -- of the parts' results
-    module _ (models : List PerfModel) (adaptive balanced : Bool) (b : not balanced ≡ false) {best floor answering shards : ℕ}
+    module _ (adaptive balanced : Bool) (b : not balanced ≡ false) {best floor answering shards : ℕ}
         (p : best ≡ bestShards n f own d majority size inflight models initial adaptive) (q : floor ≡ floorOf f d majority answering) (m : answering ≡ count alive)
         (l : shards ≡ max best floor) {r : Bool} (h : r ≡ hasCount d majority (length table) shards) where
       is-larger : shards ≡ max (bestShards n f own d majority size inflight models initial adaptive) (floorOf f d majority (count alive))
       is-larger = l ∙ rw (p, q, m)
 
-      pub counted : r ≡ true → Answer models adaptive balanced (accepted (some shards))
+      pub counted : r ≡ true → Answer adaptive balanced (accepted (some shards))
       unfolding policyOf
       counted t = is-accepted _ got _ (some shards) e z (rw (not-false balanced b, ← is-larger, ← h, t))
 
-      pub uncounted : r ≡ false → Answer models adaptive balanced (accepted none)
+      pub uncounted : r ≡ false → Answer adaptive balanced (accepted none)
       unfolding policyOf
       uncounted t = is-accepted _ got _ none e z (rw (not-false balanced b, ← is-larger, ← h, t))
 
 -- ---- `pick_assignment_policy_rows`: the table has what was chosen
-module _ (n f own d w majority size : ℕ) (inflight : List ℕ) (models : List PerfModel) (alive : ℕ) (initial table : List ℕ) (adaptive balanced : Bool) where
+module _ (n f own d w majority size : ℕ) (inflight : List ℕ) (models : List Float) (alive : ℕ) (initial table : List ℕ) (adaptive balanced : Bool) where
   pub policy-holds : {o : Outcome (Option ℕ)} → o ≡ policyOf n f own d w majority size inflight models alive initial table adaptive balanced → Holds n d majority o (length initial) (length table)
   policy-holds {o} e = go o (sym e)
     where
@@ -149,5 +149,5 @@ module _ (n f own d w majority size : ℕ) (inflight : List ℕ) (models : List 
       go (refused k) q = tt
       go (accepted none) q =
           let z = initial-means n f own d w majority size inflight models alive initial table adaptive balanced .0 q .0 in
-          policy-sound n f own d w majority size inflight alive initial table .0 z .initial-rows
+          policy-sound n f own d w majority size inflight models alive initial table .0 z .initial-rows
       go (accepted (some c)) q = count-held n f own d w majority size inflight models alive initial table adaptive balanced c q

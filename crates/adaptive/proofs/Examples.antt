@@ -2,20 +2,20 @@
 -- Assumes nothing.
 use mathlib.Core.Path.{_≡_, refl}
 use mathlib.Core.Bool.{Bool, true, false}
-use mathlib.Core.List.{List, [], _∷_, _++_, map}
+use mathlib.Core.List.{List, [], _∷_, _++_, map, foldr}
 use mathlib.Core.Option.{Option, none, some}
-use Prim.Native.Nat.{ℕ, _-_, _^_}
-use lib.Ieee.{add, mul, div, ofInt, ofBits}
-use lib.ListN.{replicate}
+use Prim.Native.Nat.{ℕ, _-_, _*_, _^_}
+use lib.Ieee.{Float, add, mul, div, ofInt, ofBits}
+use lib.ListN.{take, replicate}
 use Rattle.lists.specs.Below.{someBelow, eachBelow}
 use Rattle.lists.specs.First.{leastUpTo}
 use Rattle.bitmap.specs.Mask.{count}
 use Rattle.rows.specs.Row.{value, wordsOf, rowIn, rowsIn, spelled}
-use Rattle.floats.specs.Floats.{totalLe}
+use Rattle.floats.specs.Floats.{plusZero, totalLe}
 use Rattle.refusals.specs.Outcome.{Outcome, refused, accepted}
 use Rattle.refusals.specs.Limits.{peersFit, isPopulation, isShards, isQuorum}
 use Rattle.times.specs.declared.PerfModel.{PerfModel}
-use Rattle.times.specs.Times.{predictOf}
+use Rattle.times.specs.Times.{predictOf, modelsIn}
 use Rattle.times.proofs.Worked.{one, two, ten, model}
 use Rattle.adaptive.specs.Floor.{floorOf, floorRefusal, minShardsOf}
 use Rattle.steps.specs.Steps.{still, peerTimes, stepTime, timeOfStep, bestStep}
@@ -109,7 +109,7 @@ record Line : Type 0 where
   majority : ℕ
   size : ℕ
   inflight : List ℕ
-  models : List PerfModel
+  models : List Float
   alive : ℕ
   initial : List ℕ
   table : List ℕ
@@ -117,9 +117,16 @@ record Line : Type 0 where
   balanced : Bool
   says : Outcome (Option ℕ) × List ℕ
 
+-- a word for each of n replicas, and three numbers; what is not listed is 0
+wordEach : ℕ → List ℕ → List ℕ
+wordEach n inflight = take n (inflight ++ replicate 16 0)
+
+modelEach : ℕ → List PerfModel → List Float
+modelEach n models = take (n * 3) (foldr (λ (m : PerfModel) (l : List Float). m .slope ∷ m .delay ∷ m .jitter ∷ l) (replicate 48 plusZero) models)
+
 -- the two tables and the part of them by their words
 words : ℕ → ℕ → ℕ → ℕ → ℕ → ℕ → ℕ → List ℕ → List PerfModel → ℕ → List ℕ → List ℕ → Bool → Bool → Outcome (Option ℕ) → List ℕ → Line
-words n f own d w majority size inflight models alive initial table adaptive balanced choice part = record { n = n; f = f; own = own; d = d; w = w; majority = majority; size = size; inflight = inflight; models = models; alive = alive; initial = initial; table = table; adaptive = adaptive; balanced = balanced; says = (choice, part) }
+words n f own d w majority size inflight models alive initial table adaptive balanced choice part = record { n = n; f = f; own = own; d = d; w = w; majority = majority; size = size; inflight = wordEach n inflight; models = modelEach n models; alive = alive; initial = initial; table = table; adaptive = adaptive; balanced = balanced; says = (choice, part) }
 
 -- and by their rows
 line : ℕ → ℕ → ℕ → ℕ → ℕ → ℕ → ℕ → List ℕ → List PerfModel → ℕ → List ℕ → List ℕ → Bool → Bool → Outcome (Option ℕ) → List ℕ → Line
@@ -176,8 +183,8 @@ choices =
     ∷ line 1 0 0 2 2 1 0 [] [] 1 (1 ∷ []) (2 ∷ []) true true (accepted (some 2)) (2 ∷ [])
     -- what the models favour is below the floor
     ∷ line 3 1 0 4 6 2 4194300 idle (still ∷ model one 0 0 ∷ model one 0 0 ∷ []) 5 laid nine true true (accepted (some 4)) (31 ∷ 32 ∷ 33 ∷ [])
-    -- our own bytes in flight are unread, and so are those past the population; the most that may be
-    ∷ line 3 1 0 4 6 2 0 (1099511627777 ∷ 0 ∷ 0 ∷ 1099511627777 ∷ []) [] 7 laid nine false true (accepted (some 2)) (11 ∷ 12 ∷ 13 ∷ [])
+    -- our own bytes in flight are unread; the most that may be
+    ∷ line 3 1 0 4 6 2 0 (1099511627777 ∷ 0 ∷ 0 ∷ []) [] 7 laid nine false true (accepted (some 2)) (11 ∷ 12 ∷ 13 ∷ [])
     ∷ line 3 1 1 4 6 2 0 (0 ∷ 1099511627777 ∷ 0 ∷ []) [] 7 laid nine false true (accepted (some 2)) (11 ∷ 12 ∷ 13 ∷ [])
     ∷ line 3 1 0 4 6 2 1073741824 (0 ∷ 1099511627776 ∷ 1099511627776 ∷ []) [] 7 laid nine false true (accepted (some 2)) (11 ∷ 12 ∷ 13 ∷ [])
     -- the largest numbers
@@ -195,7 +202,7 @@ picked l =
     (c, spelled (rowsOf (l .n) (l .d) (l .majority) c (rowsIn (l .initial)) (rowsIn (l .table))))
 
 choices-are : map picked choices ≡ map (λ (l : Line). l .says) choices
-unfolding words line choices picked value wordsOf rowIn rowsIn spelled policyOf policyRefusal isPopulation isShards isQuorum peersFit someBelow count floorOf bestShards bestStep leastUpTo timeOfStep stepTime peerTimes eachBelow predictOf add mul div ofInt ofBits totalLe
+unfolding words line wordEach modelEach choices picked value wordsOf rowIn rowsIn spelled policyOf policyRefusal isPopulation isShards isQuorum peersFit someBelow count floorOf bestShards bestStep leastUpTo timeOfStep stepTime peerTimes modelsIn eachBelow predictOf add mul div ofInt ofBits totalLe
 choices-are = refl
 
 -- ---- what is refused, and with which number, whether or not it is adaptive and balanced; the rows are then none
@@ -210,6 +217,29 @@ wrong n f own d w majority size inflight alive initial table number = record {
   given = λ adaptive balanced. line n f own d w majority size inflight [] alive initial table adaptive balanced (refused number) [];
 }
 
+-- by the two tables of each replica
+tables : List ℕ → List Float → ℕ → Wrong
+tables inflight models number = record {
+  number = number;
+  given = λ adaptive balanced. record {
+    n = 3;
+    f = 1;
+    own = 0;
+    d = 4;
+    w = 6;
+    majority = 2;
+    size = 0;
+    inflight = inflight;
+    models = models;
+    alive = 7;
+    initial = spelled laid;
+    table = spelled nine;
+    adaptive = adaptive;
+    balanced = balanced;
+    says = (refused number, []);
+  };
+}
+
 -- by the words of the two tables
 worded : ℕ → ℕ → ℕ → ℕ → ℕ → ℕ → ℕ → List ℕ → ℕ → List ℕ → List ℕ → ℕ → Wrong
 unfolding words
@@ -219,7 +249,7 @@ worded n f own d w majority size inflight alive initial table number = record {
 }
 
 refusals : List Wrong
-unfolding wrong worded
+unfolding wrong worded tables
 refusals =
     -- the population; the tolerance; our own number
     wrong 0 1 0 4 6 2 0 idle 7 laid nine 1
@@ -248,6 +278,13 @@ refusals =
     ∷ worded 1 0 0 2 70 1 0 [] 1 (3 ∷ 64 ∷ 0 ∷ []) [] 16
     ∷ worded 1 0 0 2 70 1 0 [] 1 (3 ∷ 0 ∷ 0 ∷ 0 ∷ []) (3 ∷ 0 ∷ 0 ∷ 0 ∷ 1 ∷ []) 17
     ∷ worded 1 0 0 2 70 1 0 [] 1 (3 ∷ 0 ∷ 0 ∷ 0 ∷ []) (3 ∷ 0 ∷ 0 ∷ 0 ∷ 1 ∷ 64 ∷ []) 16
+    -- a word or a number too few, and too many; the words that are there are tested first
+    ∷ tables (0 ∷ 0 ∷ []) (replicate 9 plusZero) 17
+    ∷ tables (0 ∷ 0 ∷ 0 ∷ 0 ∷ []) (replicate 9 plusZero) 17
+    ∷ tables (0 ∷ 0 ∷ 0 ∷ []) (replicate 8 plusZero) 17
+    ∷ tables (0 ∷ 0 ∷ 0 ∷ []) (replicate 10 plusZero) 17
+    ∷ tables (0 ∷ 1099511627777 ∷ []) (replicate 9 plusZero) 15
+    ∷ tables (0 ∷ 0 ∷ 0 ∷ 1099511627777 ∷ []) (replicate 9 plusZero) 17
     -- too few rows, and too many; a table of counts 2 and 4 alone
     ∷ wrong 3 1 0 4 6 2 0 idle 7 (3 ∷ 40 ∷ []) nine 17
     ∷ wrong 3 1 0 4 6 2 0 idle 7 (3 ∷ 40 ∷ 41 ∷ 42 ∷ []) nine 17
@@ -277,5 +314,5 @@ flagged : Wrong → List Line
 flagged l = l .given false false ∷ l .given false true ∷ l .given true false ∷ l .given true true ∷ []
 
 refusals-are : map (λ (l : Wrong). map picked (flagged l)) refusals ≡ map (λ (l : Wrong). replicate 4 (refused (l .number), [])) refusals
-unfolding words line wrong worded refusals flagged picked value wordsOf rowIn rowsIn spelled eachBelow policyOf policyRefusal isPopulation isShards isQuorum peersFit someBelow
+unfolding words line wordEach modelEach wrong worded tables refusals flagged picked value wordsOf rowIn rowsIn spelled eachBelow policyOf policyRefusal isPopulation isShards isQuorum peersFit someBelow
 refusals-are = refl

@@ -5,6 +5,7 @@ use mathlib.Core.List.{List, [], _∷_}
 use mathlib.Core.Option.{Option, none, some}
 use Prim.Native.Nat.{ℕ, suc, _-_, _*_, _/_, _%_, _≤_, _<_, max}
 use lib.Dec.{leb, eqb}
+use lib.Ieee.{Float}
 use lib.ListN.{length, take, drop}
 use Rattle.bitmap.specs.Mask.{count}
 use Rattle.rows.specs.Row.{rowIn}
@@ -12,7 +13,7 @@ use Rattle.refusals.specs.Numbers.{POPULATION, TOLERANCE, REPLICA, SHARDS, QUOR
 use Rattle.refusals.specs.First.{Case, unless, firstOf}
 use Rattle.refusals.specs.Outcome.{Outcome, refused, accepted, outcome}
 use Rattle.refusals.specs.Limits.{mostShards, isPopulation, isTolerance, isReplica, isShards, isQuorum, isSize, peersFit, isMask, areRows, isTable}
-use Rattle.times.specs.declared.PerfModel.{PerfModel}
+use Rattle.times.specs.Times.{modelsIn}
 use Rattle.adaptive.specs.declared.Policy.{Policy}
 use Rattle.adaptive.specs.declared.Policy.the-variants.{Refused, Initial, Balanced}
 use Rattle.adaptive.specs.Floor.{floorOf}
@@ -32,10 +33,10 @@ hasCount d majority len shards = not (eqb len 0) && (leb (d / majority) shards &
 abbrev pub rowsFor : ℕ → ℕ → ℕ → ℕ → List ℕ → List ℕ
 rowsFor n d majority shards table = take n (drop ((shards - d / majority) * n) table)
 
--- ---- what refuses
+-- ---- what refuses: `inflight` has a word for each replica, and `models` three numbers
 
-abbrev pub policyCases : ℕ → ℕ → ℕ → ℕ → ℕ → ℕ → ℕ → List ℕ → ℕ → List ℕ → List ℕ → List Case
-policyCases n f own d w majority size inflight alive initial table =
+abbrev pub policyCases : ℕ → ℕ → ℕ → ℕ → ℕ → ℕ → ℕ → List ℕ → List Float → ℕ → List ℕ → List ℕ → List Case
+policyCases n f own d w majority size inflight models alive initial table =
     unless (isPopulation n) POPULATION
     ∷ unless (isTolerance n f) TOLERANCE
     ∷ unless (isReplica n own) REPLICA
@@ -47,19 +48,22 @@ policyCases n f own d w majority size inflight alive initial table =
     ∷ unless (isMask n alive) MASK
     ∷ unless (areRows w initial) MASK
     ∷ unless (areRows w table) MASK
+    ∷ unless (eqb (length inflight) n) TABLE
+    ∷ unless (eqb (length models) (n * 3)) TABLE
     ∷ unless (isTable n (length initial)) TABLE
     ∷ unless (isBalancedTable n d majority (length table)) TABLE
     ∷ []
 
-unfoldable pub policyRefusal : ℕ → ℕ → ℕ → ℕ → ℕ → ℕ → ℕ → List ℕ → ℕ → List ℕ → List ℕ → ℕ
-policyRefusal n f own d w majority size inflight alive initial table = firstOf (policyCases n f own d w majority size inflight alive initial table)
+unfoldable pub policyRefusal : ℕ → ℕ → ℕ → ℕ → ℕ → ℕ → ℕ → List ℕ → List Float → ℕ → List ℕ → List ℕ → ℕ
+policyRefusal n f own d w majority size inflight models alive initial table =
+    firstOf (policyCases n f own d w majority size inflight models alive initial table)
 
 -- ---- the choice
 
 -- that of the first least step; not adaptive, the count of row 0 of the initial layout
-unfoldable pub bestShards : ℕ → ℕ → ℕ → ℕ → ℕ → ℕ → List ℕ → List PerfModel → List ℕ → Bool → ℕ
+unfoldable pub bestShards : ℕ → ℕ → ℕ → ℕ → ℕ → ℕ → List ℕ → List Float → List ℕ → Bool → ℕ
 bestShards n f own d majority size inflight models initial adaptive =
-    cond adaptive (stepShards d majority (bestStep n f own d majority size inflight models)) (count (rowIn initial 0))
+    cond adaptive (stepShards d majority (bestStep n f own d majority size inflight (modelsIn models))) (count (rowIn initial 0))
 
 -- the initial layout (none), or a count of the table
 abbrev pub choiceOf : ℕ → ℕ → ℕ → ℕ → Option ℕ
@@ -72,9 +76,9 @@ chosen Initial = accepted none
 chosen (Balanced shards) = accepted (some shards)
 
 -- unbalanced gives the initial layout; else the larger of choice and floor picks the rows, and a count that the table lacks gives the initial layout
-unfoldable pub policyOf : ℕ → ℕ → ℕ → ℕ → ℕ → ℕ → ℕ → List ℕ → List PerfModel → ℕ → List ℕ → List ℕ → Bool → Bool → Outcome (Option ℕ)
+unfoldable pub policyOf : ℕ → ℕ → ℕ → ℕ → ℕ → ℕ → ℕ → List ℕ → List Float → ℕ → List ℕ → List ℕ → Bool → Bool → Outcome (Option ℕ)
 policyOf n f own d w majority size inflight models alive initial table adaptive balanced =
-    outcome (policyRefusal n f own d w majority size inflight alive initial table)
+    outcome (policyRefusal n f own d w majority size inflight models alive initial table)
     (cond balanced (choiceOf d majority (length table) (max (bestShards n f own d majority size inflight models initial adaptive) (floorOf f d majority (count alive)))) none)
 
 -- ---- the rows of a choice, of the rows of the two tables: none where the input is refused, the initial layout, or those of the count

@@ -9,6 +9,7 @@ use native.Mathlib.Nat.{mul-pos, mul-comm, suc-mul, mul-le-mul-right, le-of-mul-
 use native.Mathlib.Decide.{decLt, decLe, ℕ-discrete}
 use native.Mathlib.Omega.{arith}
 use lib.Dec.{leb, eqb}
+use lib.Ieee.{Float}
 use lib.ListN.{length, drop, getD, length-drop}
 use lib.Seq.{length-take-le, getD-take, getD-drop}
 use borrow.Author.Tests.{leb-true, le-leb, eqb-false, ne-eqb, not-true}
@@ -21,7 +22,6 @@ use Rattle.refusals.specs.LimitLaws.{AreRows, rows-small}
 use Rattle.refusals.specs.Outcome.{Outcome, refused, accepted}
 use Rattle.refusals.specs.OutcomeLaws.{accepted-means}
 use Rattle.refusals.specs.OutcomeLaws as Outcomes
-use Rattle.times.specs.declared.PerfModel.{PerfModel}
 use Rattle.adaptive.specs.Floor.{floorOf, floorRefusal, minShardsOf}
 use Rattle.steps.specs.Steps.{stepShards, stepQuorum}
 use Rattle.steps.specs.StepLaws.{shares-whole, shares-positive}
@@ -154,10 +154,10 @@ module _ (t : Bool) (o : Option ℕ) where
       go false = (λ e. inl refl, λ h. refl)
 
 -- ---- `pick_assignment_policy` and `pick_assignment_policy_rows`
-module _ (n f own d w majority size : ℕ) (inflight : List ℕ) (models : List PerfModel) (alive : ℕ) (initial table : List ℕ) (adaptive balanced : Bool) where
+module _ (n f own d w majority size : ℕ) (inflight : List ℕ) (models : List Float) (alive : ℕ) (initial table : List ℕ) (adaptive balanced : Bool) where
   -- the number that refuses, or 0
   abbrev number : ℕ
-  number = policyRefusal n f own d w majority size inflight alive initial table
+  number = policyRefusal n f own d w majority size inflight models alive initial table
 
   -- the larger of choice and floor
   abbrev larger : ℕ
@@ -240,7 +240,7 @@ module _ (n f own d w majority size : ℕ) (inflight : List ℕ) (models : List 
     pub count-held : Holds n d majority (accepted (some c)) (length initial) (length table)
     count-held =
         let h = choice-means c .0 e in
-        let s = policy-sound n f own d w majority size inflight alive initial table .0 (h .unrefused) in
+        let s = policy-sound n f own d w majority size inflight models alive initial table .0 (h .unrefused) in
         (s .population .1, omega (arith, s .shards), s .enough .0, h .least, h .most, ⊎-elim (λ z. absurd (h .filled z)) (λ q. q) (s .balanced-rows))
 
     whole-rows : length table ≡ length (rowsIn table) * 4
@@ -272,8 +272,8 @@ module _ (n f own d w majority size : ℕ) (inflight : List ℕ) (models : List 
   pub rows-fit : number ≡ 0 → AreRows n w rows
   rows-fit z = go policy refl
     where
-      s : PolicySound n f own d w majority size inflight alive initial table
-      s = policy-sound n f own d w majority size inflight alive initial table .0 z
+      s : PolicySound n f own d w majority size inflight models alive initial table
+      s = policy-sound n f own d w majority size inflight models alive initial table .0 z
 
       go : (o : Outcome (Option ℕ)) → policy ≡ o → AreRows n w (rowsOf n d majority o (rowsIn initial) (rowsIn table))
       go (refused k) e = absurd (refused-means k .0 e .1 (sym (refused-means k .0 e .0) ∙ z))
@@ -288,7 +288,7 @@ module _ (n f own d w majority size : ℕ) (inflight : List ℕ) (models : List 
   -- and the words that are handed out are a table of just these rows
   pub words-fit : number ≡ 0 → (rowsIn (spelled rows) ≡ rows) × (length (spelled rows) ≡ n * 4)
   words-fit z =
-      let s = policy-sound n f own d w majority size inflight alive initial table .0 z in
+      let s = policy-sound n f own d w majority size inflight models alive initial table .0 z in
       let r = rows-fit z in
       (spelled-rows rows (rows-small n w rows r (s .shards .2)), spelled-length rows ∙ ap (λ (k : ℕ). k * 4) (r .0))
 
@@ -298,7 +298,7 @@ module _ (n f own d w majority size : ℕ) (inflight : List ℕ) (models : List 
     where
       go : rows ≡ [] → Dec (number ≡ 0) → policy ≡ refused number
       go e (yes z) =
-          let s = policy-sound n f own d w majority size inflight alive initial table .0 z in
+          let s = policy-sound n f own d w majority size inflight models alive initial table .0 z in
           let l : length rows ≡ 0 = ap length e in
           absurd (omega (arith, rows-fit z .0, l, s .population))
       go e (no z) = refused-means number .1 (refl, z)

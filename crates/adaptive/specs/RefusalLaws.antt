@@ -6,6 +6,7 @@ use mathlib.Core.List.{List}
 use Prim.Native.Nat.{ℕ, suc, _-_, _*_, _/_, _%_, _^_, _≤_, _<_}
 use native.Mathlib.Omega.{arith}
 use lib.Dec.{eqb}
+use lib.Ieee.{Float}
 use lib.ListN.{length}
 use borrow.Author.Tests.{eqb-true, eq-eqb, leb-true, le-leb, ltb-true, lt-ltb, not-false}
 use Rattle.lists.specs.AllLaws.{Each, all-means}
@@ -72,7 +73,7 @@ pub table-means : (n d majority len : ℕ) → (isBalancedTable n d majority len
 table-means n d majority len = one-of len 0 (n * suc (d - d / majority) * 4)
 
 -- ---- `pick_assignment_policy`, and its rows
-module _ (n f own d w majority size : ℕ) (inflight : List ℕ) (alive : ℕ) (initial table : List ℕ) where
+module _ (n f own d w majority size : ℕ) (inflight : List ℕ) (models : List Float) (alive : ℕ) (initial table : List ℕ) where
   pub record PolicySound : Type 0 where
     pub population : (1 ≤ n) × (n ≤ 16)
     pub tolerance : f < n
@@ -85,14 +86,16 @@ module _ (n f own d w majority size : ℕ) (inflight : List ℕ) (alive : ℕ) (
     pub mask : alive < 2 ^ n
     pub each-initial : Each (isRow w) 0 (rowsIn initial)
     pub each-balanced : Each (isRow w) 0 (rowsIn table)
+    pub a-word-each : length inflight ≡ n
+    pub a-model-each : length models ≡ n * 3
     pub initial-rows : length initial ≡ n * 4
     pub balanced-rows : (length table ≡ 0) ⊎ (length table ≡ n * suc (d - d / majority) * 4)
 
-  pub policy-sound : (policyRefusal n f own d w majority size inflight alive initial table ≡ 0) ↔ PolicySound
+  pub policy-sound : (policyRefusal n f own d w majority size inflight models alive initial table ≡ 0) ↔ PolicySound
   unfolding policyRefusal
   policy-sound = (
     λ e.
-        let h = none-holds (policyCases n f own d w majority size inflight alive initial table) refl .0 e in
+        let h = none-holds (policyCases n f own d w majority size inflight models alive initial table) refl .0 e in
         record {
           population = population-means n .0 (not-false _ (search h));
           tolerance = ltb-true f n (not-false _ (search h));
@@ -105,6 +108,8 @@ module _ (n f own d w majority size : ℕ) (inflight : List ℕ) (alive : ℕ) (
           mask = ltb-true alive (2 ^ n) (not-false _ (search h));
           each-initial = all-means (isRow w) 0 (rowsIn initial) .0 (not-false _ (search h));
           each-balanced = all-means (isRow w) 0 (rowsIn table) .0 (not-false _ (search h));
+          a-word-each = eqb-true (length inflight) n (not-false _ (search h));
+          a-model-each = eqb-true (length models) (n * 3) (not-false _ (search h));
           initial-rows = eqb-true (length initial) (n * 4) (not-false _ (search h));
           balanced-rows = table-means n d majority (length table) .0 (not-false _ (search h));
         },
@@ -121,6 +126,8 @@ module _ (n f own d w majority size : ℕ) (inflight : List ℕ) (alive : ℕ) (
           lt-ltb alive (2 ^ n) (s .mask),
           all-means (isRow w) 0 (rowsIn initial) .1 (s .each-initial),
           all-means (isRow w) 0 (rowsIn table) .1 (s .each-balanced),
+          eq-eqb (length inflight) n (s .a-word-each),
+          eq-eqb (length models) (n * 3) (s .a-model-each),
           eq-eqb (length initial) (n * 4) (s .initial-rows),
           table-means n d majority (length table) .1 (s .balanced-rows),
         ),

@@ -10,7 +10,6 @@ ghost use Rattle.steps.specs.Steps.{inFlight};
 ghost use Rattle.adaptive.specs.Floor.{floorOf, floorRefusal, floored, minShardsOf};
 ghost use Rattle.adaptive.specs.Policy.{isBalancedTable, hasCount, bestShards, policyRefusal, chosen, policyOf, rowsOf, Holds};
 use bitmap::ReplicaId;
-use times::PerfModel;
 
 // The fewest shards a replica.
 pub enum Floor {
@@ -37,7 +36,8 @@ pub fn min_shards_per_replica(n: usize, f: usize, d: usize, majority: usize, ali
 }
 
 // Picks the assignment for a value of `size` bytes and the peers now alive: the initial layout, or a count of the balanced table, which has
-// n rows for each count from d / majority to d, or nothing. A row has four words.
+// n rows for each count from d / majority to d, or nothing. A row has four words. Of each replica `inflight` has the bytes in flight to it,
+// and `models` three numbers: slope in ms a MiB, delay and jitter in ms.
 pub fn pick_assignment_policy(
     n: usize,
     f: usize,
@@ -46,15 +46,15 @@ pub fn pick_assignment_policy(
     w: usize,
     majority: usize,
     size: u64,
-    inflight: [u64; 16],
-    models: [PerfModel; 16],
+    inflight: &[u64],
+    models: &[f64],
     alive: u64,
     initial: &[u64],
     table: &[u64],
     adaptive: bool,
     balanced: bool,
 ) -> Policy
-    ensures { λ r. ⌜ chosen r ≡ policyOf n f (own .0) d w majority size inflight models alive (now (initial .entry)) (now (table .entry)) adaptive balanced ⌝ }
+    ensures { λ r. ⌜ chosen r ≡ policyOf n f (own .0) d w majority size (now (inflight .entry)) (now (models .entry)) alive (now (initial .entry)) (now (table .entry)) adaptive balanced ⌝ }
 {
     let no = policy_refusal(
         n,
@@ -65,6 +65,7 @@ pub fn pick_assignment_policy(
         majority,
         size,
         inflight,
+        models,
         alive,
         initial,
         table,
@@ -103,15 +104,15 @@ pub fn pick_assignment_policy_rows<'a>(
     w: usize,
     majority: usize,
     size: u64,
-    inflight: [u64; 16],
-    models: [PerfModel; 16],
+    inflight: &[u64],
+    models: &[f64],
     alive: u64,
     initial: &'a [u64],
     table: &'a [u64],
     adaptive: bool,
     balanced: bool,
 ) -> &'a [u64]
-    ensures { λ r. ⌜ now r ≡ spelled (rowsOf n d majority (policyOf n f (own .0) d w majority size inflight models alive (now (initial .entry)) (now (table .entry)) adaptive balanced) (rowsIn (now (initial .entry))) (rowsIn (now (table .entry)))) ⌝ }
+    ensures { λ r. ⌜ now r ≡ spelled (rowsOf n d majority (policyOf n f (own .0) d w majority size (now (inflight .entry)) (now (models .entry)) alive (now (initial .entry)) (now (table .entry)) adaptive balanced) (rowsIn (now (initial .entry))) (rowsIn (now (table .entry)))) ⌝ }
 {
     let choice = pick_assignment_policy(
         n,
@@ -193,12 +194,13 @@ fn policy_refusal(
     w: usize,
     majority: usize,
     size: u64,
-    inflight: [u64; 16],
+    inflight: &[u64],
+    models: &[f64],
     alive: u64,
     initial: &[u64],
     table: &[u64],
 ) -> u8
-    ensures { λ r. ⌜ r ≡ policyRefusal n f (own .0) d w majority size inflight alive (now (initial .entry)) (now (table .entry)) ⌝ }
+    ensures { λ r. ⌜ r ≡ policyRefusal n f (own .0) d w majority size (now (inflight .entry)) (now (models .entry)) alive (now (initial .entry)) (now (table .entry)) ⌝ }
 {
     if !refusals::is_population(n) {
         return refusals::POPULATION;
@@ -233,6 +235,12 @@ fn policy_refusal(
     if !refusals::are_rows(w, table) {
         return refusals::MASK;
     }
+    if inflight.len() != n {
+        return refusals::TABLE;
+    }
+    if models.len() != n * 3 {
+        return refusals::TABLE;
+    }
     if !refusals::is_table(n, initial.len()) {
         return refusals::TABLE;
     }
@@ -243,19 +251,26 @@ fn policy_refusal(
 }
 
 // Whether the bytes in flight to each peer are within bounds. A part: the population has been tested.
-fn peers_fit(n: usize, own: ReplicaId, inflight: [u64; 16]) -> bool
+fn peers_fit(n: usize, own: ReplicaId, inflight: &[u64]) -> bool
     requires { ⌜ n ≤ 16 ⌝ }
-    ensures { λ r. ⌜ r ≡ peersFit n (own .0) (inFlight inflight) ⌝ }
+    ensures { λ r. ⌜ r ≡ peersFit n (own .0) (inFlight (now (inflight .entry))) ⌝ }
 {
     let mut p = 0;
     while p < n {
-        if refusals::is_overfull(own, ReplicaId(p), inflight[p]) {
+        if refusals::is_overfull(own, ReplicaId(p), in_flight(inflight, p)) {
             return false;
         } else {
             p += 1;
         }
     }
     true
+}
+
+// The bytes in flight to p; what the table lacks is 0.
+fn in_flight(inflight: &[u64], p: usize) -> u64
+    ensures { λ r. ⌜ r ≡ inFlight (now (inflight .entry)) p ⌝ }
+{
+    if p < inflight.len() { inflight[p] } else { 0 }
 }
 
 // Whether a balanced table has that many words: those of n rows for each count, or none. A part: the numbers have been tested.
@@ -312,14 +327,14 @@ fn best_shards(
     d: usize,
     majority: usize,
     size: u64,
-    inflight: [u64; 16],
-    models: [PerfModel; 16],
+    inflight: &[u64],
+    models: &[f64],
     initial: &[u64],
     adaptive: bool,
 ) -> usize
     requires { ⌜ (0 < n) × (n ≤ 16) × (f < n) × (d ≤ mostShards) × (0 < d) × (0 < majority) × (majority ≤ n) × (d % majority ≡ 0) × (size ≤ 2 ^ 30) × (length (now initial) ≡ n * 4) ⌝ }
-    requires { ⌜ InFlight n (own .0) (inFlight inflight) ⌝ }
-    ensures { λ r. ⌜ r ≡ bestShards n f (own .0) d majority size inflight models (now (initial .entry)) adaptive ⌝ }
+    requires { ⌜ (length (now inflight) ≡ n) × (length (now models) ≡ n * 3) × InFlight n (own .0) (inFlight (now inflight)) ⌝ }
+    ensures { λ r. ⌜ r ≡ bestShards n f (own .0) d majority size (now (inflight .entry)) (now (models .entry)) (now (initial .entry)) adaptive ⌝ }
 {
     if adaptive {
         let i = steps::best_step(n, f, own, d, majority, size, inflight, models);

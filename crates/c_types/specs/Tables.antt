@@ -31,6 +31,3 @@ peerAt heard models inflight p = record {
 
 unfoldable pub fromPeers : ℕ → List Float → List ℕ → List PeerRecord
 fromPeers heard models inflight = eachBelow (peerAt heard models inflight) 16
-
-unfoldable pub fromInFlight : List ℕ → List ℕ
-fromInFlight inflight = eachBelow (wordAt inflight) 16

@@ -15,8 +15,7 @@ ghost use Rattle.layout_text.specs.LayoutText.{answer as init};
 ghost use Rattle.gossip.specs.Gossip.{gossiped};
 ghost use Rattle.tally.specs.Tally.{answer as told};
 ghost use Rattle.c_types.specs.CTypes.{wordOf, isSet, toTotal, toAnswer, toFlag, toDone, toFloat, toLayout, toPlan, unplannedOf, toChoice, initialOf, toReply, toProfile, fromProfile, numberOf, toReading, toTally, fromTally, tallyLeft, toOpening};
-ghost use Rattle.times.specs.Times.{modelIn, modelsIn};
-ghost use Rattle.c_types.specs.Tables.{floatAt, wordAt, peerAt, fromPeers, fromInFlight, isRecords};
+ghost use Rattle.c_types.specs.Tables.{floatAt, wordAt, peerAt, fromPeers, isRecords};
 use adaptive::Floor;
 use adaptive::Policy;
 use assignment::Pick;
@@ -34,7 +33,6 @@ use profile_text::Reading;
 use profiles::Estimate;
 use times::Peer;
 use times::PeerRecord;
-use times::PerfModel;
 
 // The number that refuses, or 0; beside a number every other field is 0. So in each struct that answers.
 #[repr(C)]
@@ -507,45 +505,4 @@ pub fn from_peers(heard: u64, models: &[f64], inflight: &[u64]) -> [PeerRecord; 
         p += 1;
     }
     records
-}
-
-fn model_at(models: &[f64], p: usize) -> PerfModel
-    requires { ⌜ p < 16 ⌝ }
-    ensures { λ r. ⌜ r ≡ modelIn (now (models .entry)) p ⌝ }
-{
-    PerfModel {
-        slope: float_at(models, p * 3),
-        delay: float_at(models, p * 3 + 1),
-        jitter: float_at(models, p * 3 + 2),
-    }
-}
-
-// The models of the policy: three floats a replica.
-pub fn from_models(models: &[f64]) -> [PerfModel; 16]
-    ensures { λ r. ⌜ r ≡ modelsIn (now (models .entry)) ⌝ }
-{
-    let mut all = [PerfModel {
-        slope: 0.0,
-        delay: 0.0,
-        jitter: 0.0,
-    }; 16];
-    let mut p = 0;
-    while p < 16 {
-        all[p] = model_at(models, p);
-        p += 1;
-    }
-    all
-}
-
-// The bytes in flight to each replica.
-pub fn from_in_flight(inflight: &[u64]) -> [u64; 16]
-    ensures { λ r. ⌜ r ≡ fromInFlight (now (inflight .entry)) ⌝ }
-{
-    let mut all = [0u64; 16];
-    let mut p = 0;
-    while p < 16 {
-        all[p] = word_at(inflight, p);
-        p += 1;
-    }
-    all
 }

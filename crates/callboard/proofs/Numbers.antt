@@ -19,11 +19,10 @@ use Rattle.layout.specs.declared.TotalShards.{TotalShards}
 use Rattle.assignment.specs.Plans.{pickInputCases, pickTableCases, pickRefusal}
 use Rattle.adaptive.specs.Policy.{policyRefusal, policyOf}
 use Rattle.c_types.specs.CTypes.{isSet}
-use Rattle.times.specs.Times.{modelsIn}
-use Rattle.c_types.specs.Tables.{isRecords, fromPeers, fromInFlight}
+use Rattle.c_types.specs.Tables.{isRecords, fromPeers}
 use Rattle.callboard.specs.Interface.{heardCases, planCases, policyIn}
 use Rattle.callboard.specs.InterfaceLaws.{plan-number, entry-number, choice-number}
-use Rattle.callboard.specs.Tests.{isPast, planTables, policyTables, fittingOf}
+use Rattle.callboard.specs.Tests.{isPast, planTables, fittingOf}
 
 -- an input that is refused is refused once
 pub checked-twice : {A : Type 0} (k : ℕ) (o : Outcome A) → checked k (checked k o) ≡ checked k o
@@ -82,11 +81,9 @@ module _ (n own quorum d : ℕ) (total : TotalShards) (size : ℕ) (penalty : Fl
 -- ---- the policy
 module _ (n f own d w majority size adaptive balanced : ℕ) (models : List Float) (inflight : List ℕ) (alive : ℕ)
     (initial table : List ℕ) (fits : Bool) where
-  lent-is : (a b c : Bool) → cond (not a) TABLE (cond (not b) TABLE (cond (not c) TABLE 0)) ≡ cond (a && (b && c)) 0 TABLE
-  lent-is false b c = refl
-  lent-is true false c = refl
-  lent-is true true false = refl
-  lent-is true true true = refl
+  lent-is : (b : Bool) → cond (not b) TABLE 0 ≡ cond b 0 TABLE
+  lent-is false = refl
+  lent-is true = refl
 
   fitted : (k : ℕ) (b : Bool) (c : Option ℕ) → checked (otherwise k (cond b 0 TABLE)) (outcome k c) ≡ fittingOf b (outcome k c)
   fitted zero true c = refl
@@ -94,15 +91,10 @@ module _ (n f own d w majority size adaptive balanced : ℕ) (models : List Floa
   fitted (suc k) true c = refl
   fitted (suc k) false c = refl
 
-  -- the choice of the entry, if the tables fit
+  -- the choice of the entry, if the table fits
   pub policy-in-is : policyIn n f own d w majority size adaptive balanced models inflight alive initial table fits
-      ≡ fittingOf (policyTables n (length models) (length inflight) fits)
-      (policyOf n f own d w majority size (fromInFlight inflight) (modelsIn models) alive initial table (isSet adaptive) (isSet balanced))
+      ≡ fittingOf fits (policyOf n f own d w majority size inflight models alive initial table (isSet adaptive) (isSet balanced))
   unfolding policyIn policyOf
   policy-in-is =
-      let k = policyRefusal n f own d w majority size (fromInFlight inflight) alive initial table in
-      rw (
-        choice-number n f own d w majority size adaptive balanced models inflight alive initial table fits,
-        lent-is (isRecords (length models) 3 n) (eqb (length inflight) n) fits,
-      )
-      (fitted k (policyTables n (length models) (length inflight) fits) _)
+      let k = policyRefusal n f own d w majority size inflight models alive initial table in
+      rw (choice-number n f own d w majority size adaptive balanced models inflight alive initial table fits, lent-is fits) (fitted k fits _)

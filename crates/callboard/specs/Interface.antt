@@ -15,8 +15,7 @@ use Rattle.layout.specs.declared.TotalShards.{TotalShards}
 use Rattle.assignment.specs.Plans.{Plan, pickInputCases, pickTableCases, pickOf}
 use Rattle.adaptive.specs.Policy.{policyCases, policyOf, rowsOf}
 use Rattle.c_types.specs.CTypes.{isSet}
-use Rattle.times.specs.Times.{modelsIn}
-use Rattle.c_types.specs.Tables.{isRecords, fromPeers, fromInFlight}
+use Rattle.c_types.specs.Tables.{isRecords, fromPeers}
 
 -- ---- plans
 
@@ -37,19 +36,15 @@ pickIn n own quorum d total size penalty heard models inflight faults rows =
 
 -- ---- the policy
 
--- three floats and a word for each of n replicas, and the table lent for the rows, if there is one, has n rows
-abbrev pub lentCases : ℕ → ℕ → ℕ → Bool → List Case
-lentCases n models inflight lent = unless (isRecords models 3 n) TABLE ∷ unless (eqb inflight n) TABLE ∷ unless lent TABLE ∷ []
-
--- after the entry's cases
+-- after the entry's cases: the table lent for the rows, if there is one, has n rows
 abbrev pub choiceCases : ℕ → ℕ → ℕ → ℕ → ℕ → ℕ → ℕ → List Float → List ℕ → ℕ → List ℕ → List ℕ → Bool → List Case
 choiceCases n f own d w majority size models inflight alive initial table lent =
-    policyCases n f own d w majority size (fromInFlight inflight) alive initial table ++ lentCases n (length models) (length inflight) lent
+    policyCases n f own d w majority size inflight models alive initial table ++ (unless lent TABLE ∷ [])
 
 unfoldable pub policyIn : ℕ → ℕ → ℕ → ℕ → ℕ → ℕ → ℕ → ℕ → ℕ → List Float → List ℕ → ℕ → List ℕ → List ℕ → Bool → Outcome (Option ℕ)
 policyIn n f own d w majority size adaptive balanced models inflight alive initial table lent =
     checked (firstOf (choiceCases n f own d w majority size models inflight alive initial table lent))
-    (policyOf n f own d w majority size (fromInFlight inflight) (modelsIn models) alive initial table (isSet adaptive) (isSet balanced))
+    (policyOf n f own d w majority size inflight models alive initial table (isSet adaptive) (isSet balanced))
 
 -- a part, copied where it has as many words as the table
 abbrev pub copied : List ℕ → List ℕ → List ℕ

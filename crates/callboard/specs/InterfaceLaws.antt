@@ -2,14 +2,15 @@
 use mathlib.Core.Path.{_≡_, refl, sym, ap, _∙_}
 use mathlib.Core.Bool.{Bool, true}
 use mathlib.Core.Logic.{_↔_}
-use mathlib.Core.List.{List, _++_}
+use mathlib.Core.List.{List, [], _∷_, _++_}
 use mathlib.Core.Option.{Option}
 use Prim.Native.Nat.{ℕ, zero, suc, _*_, _^_, _<_}
 use native.Mathlib.Omega.{arith}
 use lib.Ieee.{Float}
 use lib.ListN.{length}
 use borrow.Author.Tests.{eqb-true, eq-eqb, ltb-true, lt-ltb, not-false}
-use Rattle.refusals.specs.First.{firstOf}
+use Rattle.refusals.specs.Numbers.{TABLE}
+use Rattle.refusals.specs.First.{unless, firstOf}
 use Rattle.refusals.specs.FirstLaws.{none-holds, otherwise, first-then}
 use Rattle.refusals.specs.Outcome.{Outcome, accepted}
 use Rattle.refusals.specs.OutcomeLaws.{checked-means, accepted-means}
@@ -17,9 +18,8 @@ use Rattle.layout.specs.declared.TotalShards.{TotalShards}
 use Rattle.assignment.specs.Plans.{Plan, pickInputCases, pickTableCases, pickRefusal, pickOf}
 use Rattle.adaptive.specs.Policy.{policyCases, policyRefusal, policyOf}
 use Rattle.c_types.specs.CTypes.{isSet}
-use Rattle.times.specs.Times.{modelsIn}
-use Rattle.c_types.specs.Tables.{fromPeers, fromInFlight}
-use Rattle.callboard.specs.Interface.{heardCases, planCases, pickIn, lentCases, choiceCases, policyIn}
+use Rattle.c_types.specs.Tables.{fromPeers}
+use Rattle.callboard.specs.Interface.{heardCases, planCases, pickIn, choiceCases, policyIn}
 
 neither : (j k : ℕ) → (otherwise j k ≡ 0) ↔ ((j ≡ 0) × (k ≡ 0))
 neither zero k = (λ e. (refl, e), λ h. h .1)
@@ -88,40 +88,26 @@ module _ (n own quorum d : ℕ) (total : TotalShards) (size : ℕ) (penalty : Fl
 module _ (n f own d w majority size adaptive balanced : ℕ) (models : List Float) (inflight : List ℕ) (alive : ℕ)
     (initial table : List ℕ) (fits : Bool) where
   abbrev pub number : ℕ
-  number = policyRefusal n f own d w majority size (fromInFlight inflight) alive initial table
+  number = policyRefusal n f own d w majority size inflight models alive initial table
 
   abbrev pub lent : ℕ
-  lent = firstOf (lentCases n (length models) (length inflight) fits)
+  lent = firstOf (unless fits TABLE ∷ [])
 
   pub choice-number : firstOf (choiceCases n f own d w majority size models inflight alive initial table fits) ≡ otherwise number lent
   unfolding policyRefusal
-  choice-number =
-      first-then (policyCases n f own d w majority size (fromInFlight inflight) alive initial table)
-      (lentCases n (length models) (length inflight) fits) refl
+  choice-number = first-then (policyCases n f own d w majority size inflight models alive initial table) (unless fits TABLE ∷ []) refl
 
-  -- the tables have three floats and a word for each replica, and the one lent for the rows fits
-  abbrev pub Lent : Type 0
-  Lent = (length models ≡ n * 3) × (length inflight ≡ n) × (fits ≡ true)
-
-  lent-means : (lent ≡ 0) ↔ Lent
-  lent-means = (
-    λ e.
-        let h = none-holds (lentCases n (length models) (length inflight) fits) refl .0 e in (
-          eqb-true (length models) (n * 3) (not-false _ (h .0)),
-          eqb-true (length inflight) n (not-false _ (h .1 .0)),
-          not-false _ (h .1 .1 .0),
-        ),
-    λ h. simp (eq-eqb (length models) (n * 3) (h .0), eq-eqb (length inflight) n (h .1), h .2),
-  )
+  lent-means : (lent ≡ 0) ↔ (fits ≡ true)
+  lent-means = (λ e. not-false _ (none-holds (unless fits TABLE ∷ []) refl .0 e .0), λ h. simp h)
 
   abbrev choice : Outcome (Option ℕ)
   choice =
-      policyOf n f own d w majority size (fromInFlight inflight) (modelsIn models) alive initial table (isSet adaptive) (isSet balanced)
+      policyOf n f own d w majority size inflight models alive initial table (isSet adaptive) (isSet balanced)
 
-  -- accepted is what the entry accepts, of tables that fit
+  -- accepted is what the entry accepts, where the table lent for the rows fits
   pub policy-in-means : (o : Option ℕ)
       → (policyIn n f own d w majority size adaptive balanced models inflight alive initial table fits ≡ accepted o)
-      ↔ (Lent × (choice ≡ accepted o))
+      ↔ ((fits ≡ true) × (choice ≡ accepted o))
   unfolding policyIn policyOf
   policy-in-means o =
       let m = checked-means (firstOf (choiceCases n f own d w majority size models inflight alive initial table fits)) choice o in (

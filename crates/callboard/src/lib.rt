@@ -20,7 +20,7 @@ ghost use Rattle.gossip.specs.Gossip.{gossipOf, exclusionsLeft};
 ghost use Rattle.tally.specs.Tally.{openingOf, told, replyOf, tallyAfter};
 ghost use Rattle.c_types.specs.CTypes.{toTotal, toAnswer, toFlag, toDone, toFloat, toLayout, toPlan, toChoice, toReply, toReading, fromProfile, fromTally, tallyLeft, toOpening};
 ghost use Rattle.callboard.specs.Interface.{pickIn, policyIn, copied, rowsLeft};
-ghost use Rattle.callboard.specs.Tests.{isPast, planTables, policyTables, fittingOf};
+ghost use Rattle.callboard.specs.Tests.{isPast, planTables, fittingOf};
 use adaptive::Policy;
 use bitmap::ReplicaId;
 use c_types::Answer;
@@ -325,7 +325,7 @@ pub extern "C" fn callboard_policy_rows<'a>(
     c_types::chosen(choice)
 }
 
-// The choice, where the tables that C lends by replica fit n, and the table for the rows, if one is lent.
+// The choice, where the table for the rows fits, if one is lent.
 fn policy(
     n: usize,
     f: usize,
@@ -346,7 +346,7 @@ fn policy(
     ensures { λ r. ⌜ chosen r ≡ policyIn n f own d w majority size adaptive balanced (now (models .entry)) (now (inflight .entry)) alive (now (init .entry)) (now (table .entry)) lent ⌝ }
 {
     fitting(
-        policy_tables(n, models.len(), inflight.len(), lent),
+        lent,
         adaptive::pick_assignment_policy(
             n,
             f,
@@ -355,8 +355,8 @@ fn policy(
             w,
             majority,
             size,
-            c_types::from_in_flight(inflight),
-            c_types::from_models(models),
+            inflight,
+            models,
             alive,
             init,
             table,
@@ -366,19 +366,7 @@ fn policy(
     )
 }
 
-fn policy_tables(n: usize, models: usize, inflight: usize, lent: bool) -> bool
-    ensures { λ r. ⌜ r ≡ policyTables n models inflight lent ⌝ }
-{
-    if !c_types::is_records(models, 3, n) {
-        return false;
-    }
-    if inflight != n {
-        return false;
-    }
-    lent
-}
-
-// The choice if the tables fit; else the number that refuses it, or that of the tables.
+// The choice if the table lent for the rows fits; else the number that refuses it, or that of the table.
 fn fitting(fits: bool, choice: Policy) -> Policy
     ensures { λ r. ⌜ chosen r ≡ fittingOf fits (chosen choice) ⌝ }
 {

@@ -3,16 +3,13 @@ use mathlib.Core.Path.{_≡_, refl, sym, ap, _∙_}
 use mathlib.Core.List.{List}
 use Prim.Native.Nat.{ℕ, _+_, _-_, _*_, _/_, _%_, _^_, _≤_, _<_}
 use native.Mathlib.Nat.{div-le-self, mul-assoc, mul-comm, mul-le-mul}
-use native.Mathlib.Decide.{ℕ-discrete}
 use native.Mathlib.Numerals.{add-one}
 use native.Mathlib.Omega.{arith}
 use lib.Ieee.{Float, nan, binary64, div, ofBits}
-use lib.ListN.{length, getD, set, length-set}
-use lib.Seq.{getD-set-same, getD-set-other, ext-getD}
+use lib.ListN.{length, getD}
 use borrow.Author.Tests.{le-ltb}
 use Rattle.lists.specs.AllLaws.{inside-any}
-use Rattle.lists.specs.Below.{eachBelow}
-use Rattle.lists.specs.BelowLaws.{each-below-length, each-below-at}
+use Rattle.lists.specs.BelowLaws.{each-below-at}
 use Rattle.lists.specs.Sort.{sortedBy}
 use Rattle.floats.specs.Floats.{plusZero, totalLe}
 use Rattle.refusals.specs.LimitLaws.{InFlight}
@@ -22,77 +19,11 @@ use Rattle.times.specs.Times.{never, predictOf, modelIn, modelsIn}
 use Rattle.steps.specs.Steps.{peerAt, inFlight, still, peerTime, peerTimes, stepTime, stepShards, timeOfStep, bestStep}
 use Rattle.steps.specs.StepLaws.{shares-positive, steps-all, step-shards-le, peer-below, peer-not-own, best-step-means}
 
--- ---- models as numbers
-abbrev model : Float → Float → Float → PerfModel
-model a b c = record { slope = a; delay = b; jitter = c }
-
-same-model : {a b c a′ b′ c′ : Float} → a ≡ a′ → b ≡ b′ → c ≡ c′ → model a b c ≡ model a′ b′ c′
-same-model e f g = rw (e, f, g)
-
--- the defaults of reading do not matter
-pub model-read : (l : List Float) (p : ℕ) (d : Float) → length l ≡ 48 → p < 16 → model (getD l (p * 3) d) (getD l (p * 3 + 1) d) (getD l (p * 3 + 2) d) ≡ modelIn l p
-model-read l p d h k =
-    same-model (inside-any l (p * 3) d plusZero (omega arith)) (inside-any l (p * 3 + 1) d plusZero (omega arith))
-    (inside-any l (p * 3 + 2) d plusZero (omega arith))
-
--- three numbers written
-module _ (l : List Float) (p : ℕ) (m : PerfModel) where
-  abbrev one : List Float
-  one = set l (p * 3) (m .slope)
-
-  abbrev two : List Float
-  two = set one (p * 3 + 1) (m .delay)
-
-  abbrev three : List Float
-  three = set two (p * 3 + 2) (m .jitter)
-
-  module _ (long : length l ≡ 48) (place : p < 16) where
-    three-long : length three ≡ 48
-    three-long = simp length-set long
-
-    here : modelIn three p ≡ m
-    here =
-        same-model
-        (getD-set-other two (p * 3 + 2) (p * 3) (m .jitter) plusZero (λ e. omega arith)
-        ∙ getD-set-other one (p * 3 + 1) (p * 3) (m .delay) plusZero (λ e. omega arith) ∙ getD-set-same l (p * 3) (m .slope) plusZero (omega arith))
-        (getD-set-other two (p * 3 + 2) (p * 3 + 1) (m .jitter) plusZero (λ e. omega arith)
-        ∙ getD-set-same one (p * 3 + 1) (m .delay) plusZero (simp length-set (omega arith)))
-        (getD-set-same two (p * 3 + 2) (m .jitter) plusZero (simp length-set (omega arith)))
-
-    before : (j : ℕ) → j < p * 3 → getD three j plusZero ≡ getD l j plusZero
-    before j h =
-        getD-set-other two (p * 3 + 2) j (m .jitter) plusZero (λ e. omega arith)
-        ∙ getD-set-other one (p * 3 + 1) j (m .delay) plusZero (λ e. omega arith) ∙ getD-set-other l (p * 3) j (m .slope) plusZero (λ e. omega arith)
-
-module _ (models : List PerfModel) where
-  -- those below p
-  abbrev pub Numbered : List Float → ℕ → Type 0
-  Numbered l p = (p ≤ 16) × (length l ≡ 48) × ((k : ℕ) → k < p → modelIn l k ≡ getD models k still)
-
-  pub numbered-none : (l : List Float) → length l ≡ 48 → Numbered l 0
-  numbered-none l h = (omega arith, h, λ k g. absurd (omega arith))
-
-  pub numbered-more : (l : List Float) (p : ℕ) (d : PerfModel) → Numbered l p → p < 16 → length models ≡ 16
-      → Numbered (three l p (getD models p d)) (p + 1)
-  numbered-more l p d s h n = (omega arith, three-long l p m (s .1) h, λ k g. go k (ℕ-discrete k p) (omega arith))
-    where
-      m : PerfModel
-      m = getD models p d
-
-      e : m ≡ getD models p still
-      e = inside-any models p d still (omega arith)
-
-      go : (k : ℕ) → Dec (k ≡ p) → k ≤ p → modelIn (three l p m) k ≡ getD models k still
-      go k (yes q) g = rw q (here l p m (s .1) h ∙ e)
-      go k (no q) g =
-          let b = before l p m (s .1) h in
-          same-model (b (k * 3) (omega arith)) (b (k * 3 + 1) (omega arith)) (b (k * 3 + 2) (omega arith)) ∙ s .2 k (omega arith)
-
-  pub numbered-done : (l : List Float) (p : ℕ) → Numbered l p → 16 ≤ p → length models ≡ 16 → modelsIn l ≡ models
-  unfolding modelsIn
-  numbered-done l p s h e =
-      ext-getD still (eachBelow (modelIn l) 16) models (each-below-length (modelIn l) 16 ∙ sym e)
-      (λ i g. let q : i < 16 = omega (arith, each-below-length (modelIn l) 16) in each-below-at (modelIn l) 16 i still q ∙ s .2 i (omega arith))
+-- ---- a model, read: what a table lacks does not matter
+pub model-read : (l : List Float) (p : ℕ) (d : Float) → p * 3 + 2 < length l
+    → record { slope = getD l (p * 3) d; delay = getD l (p * 3 + 1) d; jitter = getD l (p * 3 + 2) d } ≡ modelIn l p
+model-read l p d h =
+    rw (inside-any l (p * 3) d plusZero (omega arith), inside-any l (p * 3 + 1) d plusZero (omega arith), inside-any l (p * 3 + 2) d plusZero h)
 
 -- ---- the j-th of m peers, p, and its time; L is the length of the lent list
 module _ (own j p L m : ℕ) (small : j < L) (same : L ≡ m) (place : p ≡ peerAt own j) where
@@ -102,11 +33,11 @@ module _ (own j p L m : ℕ) (small : j < L) (same : L ≡ m) (place : p ≡ pee
   pub peer-load : (inflight : List ℕ) → InFlight (m + 1) own (inFlight inflight) → inFlight inflight p ≤ 2 ^ 40
   peer-load inflight h = h p peer-inside (λ (e : p ≡ own). peer-not-own own j (rw place at e))
 
-  pub peer-time : (load : ℕ) (inflight : List ℕ) (numbers : List Float) (m′ : PerfModel) (x : Float) → m < 16 → m′ ≡ modelIn numbers p
-      → x ≡ predictOf m′ (inFlight inflight p + load) → x ≡ peerTime load inflight (modelsIn numbers) (peerAt own j)
+  pub peer-time : (load : ℕ) (inflight : List ℕ) (models : List Float) (model : PerfModel) (x : Float) → m < 16 → model ≡ modelIn models p
+      → x ≡ predictOf model (inFlight inflight p + load) → x ≡ peerTime load inflight (modelsIn models) (peerAt own j)
   unfolding modelsIn
-  peer-time load inflight numbers m′ x h g e =
-      let q : m′ ≡ getD (modelsIn numbers) p still = g ∙ sym (each-below-at (modelIn numbers) 16 p still (omega (arith, peer-inside))) in
+  peer-time load inflight models model x h g e =
+      let q : model ≡ getD (modelsIn models) p still = g ∙ sym (each-below-at (modelIn models) 16 p still (omega (arith, peer-inside))) in
       e ∙ rw (q, place)
 
 -- ---- a step's time: m peers' times, lent to be sorted, sorted, and lent to be read

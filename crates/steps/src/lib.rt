@@ -1,7 +1,7 @@
 // The steps of an adaptive choice: each has more shards a replica, waits for fewer replicas, and takes a time that the peers' models
 // predict.
 ghost use mathlib.Core.Path.{_≡_};
-ghost use Prim.Native.Nat.{_+_, _%_, _≤_, _<_, _^_};
+ghost use Prim.Native.Nat.{_+_, _*_, _%_, _≤_, _<_, _^_};
 ghost use lib.ListN.{length, getD};
 ghost use Rattle.refusals.specs.LimitLaws.{InFlight};
 ghost use Rattle.refusals.specs.Limits.{mostShards};
@@ -10,7 +10,7 @@ ghost use Rattle.steps.specs.Steps.{inFlight, peerAt, peerTimes, stepTim
 use bitmap::ReplicaId;
 use times::PerfModel;
 
-// The first step with the least time in total order. A part: the numbers have been tested.
+// The first step with the least time in total order. A part: the numbers have been tested, and there are a word and a model for each replica.
 pub fn best_step(
     n: usize,
     f: usize,
@@ -18,30 +18,28 @@ pub fn best_step(
     d: usize,
     majority: usize,
     size: u64,
-    inflight: [u64; 16],
-    models: [PerfModel; 16],
+    inflight: &[u64],
+    models: &[f64],
 ) -> usize
     requires { ⌜ (0 < n) × (n ≤ 16) × (f < n) × (d ≤ mostShards) × (0 < d) × (0 < majority) × (majority ≤ n) × (d % majority ≡ 0) × (size ≤ 2 ^ 30) ⌝ }
-    requires { ⌜ InFlight n (own .0) (inFlight inflight) ⌝ }
-    ensures { λ r. ⌜ r ≡ bestStep n f (own .0) d majority size inflight models ⌝ }
+    requires { ⌜ (length (now inflight) ≡ n) × (length (now models) ≡ n * 3) × InFlight n (own .0) (inFlight (now inflight)) ⌝ }
+    ensures { λ r. ⌜ r ≡ bestStep n f (own .0) d majority size (now (inflight .entry)) (modelsIn (now (models .entry))) ⌝ }
 {
-    let share = d / majority;
-    let steps = d / share;
-    let load = (size / (d as u64) + 1) * (share as u64);
-    let numbers = numbers_of(models);
+    // A share is d / majority shards, and d is a multiple of the majority: there are as many steps.
+    let load = (size / (d as u64) + 1) * ((d / majority) as u64);
     let mut best = 0;
     // A NaN is above every time.
     let mut least = 0.0 / 0.0;
     let mut i = 0;
-    while i < steps {
+    while i < majority {
         // The quorum waited for is one smaller from step to step, and each replica has one share more.
         let time = step_time(
             n,
             own,
             majority + f - i,
             load * ((i + 1) as u64),
-            &inflight[..16],
-            &numbers[..48],
+            inflight,
+            models,
         );
         if !floats::total_le(least, time) {
             best = i;
@@ -52,34 +50,18 @@ pub fn best_step(
     best
 }
 
-// The models as numbers, three a replica: as an array of structs they would be copied for every step.
-fn numbers_of(models: [PerfModel; 16]) -> [f64; 48]
-    ensures { λ r. ⌜ (length r ≡ 48) × (modelsIn r ≡ models) ⌝ }
-{
-    let mut numbers = [0.0f64; 48];
-    let mut p = 0;
-    while p < 16 {
-        let model = models[p];
-        numbers[p * 3] = model.slope;
-        numbers[p * 3 + 1] = model.delay;
-        numbers[p * 3 + 2] = model.jitter;
-        p += 1;
-    }
-    numbers
-}
-
-// When the fastest q - 1 peers have the load; at once if there are none to hear from. A part: there are 16 models.
-fn step_time(n: usize, own: ReplicaId, q: usize, load: u64, inflight: &[u64], numbers: &[f64]) -> f64
-    requires { ⌜ (0 < n) × (n ≤ 16) × (load ≤ 2 ^ 40) × (length (now inflight) ≡ 16) × (length (now numbers) ≡ 48) ⌝ }
-    requires { ⌜ InFlight n (own .0) (inFlight (now inflight)) ⌝ }
-    ensures { λ r. ⌜ r ≡ stepTime n (own .0) q load (now (inflight .entry)) (modelsIn (now (numbers .entry))) ⌝ }
+// When the fastest q - 1 peers have the load; at once if there are none to hear from.
+fn step_time(n: usize, own: ReplicaId, q: usize, load: u64, inflight: &[u64], models: &[f64]) -> f64
+    requires { ⌜ (0 < n) × (n ≤ 16) × (load ≤ 2 ^ 40) ⌝ }
+    requires { ⌜ (length (now inflight) ≡ n) × (length (now models) ≡ n * 3) × InFlight n (own .0) (inFlight (now inflight)) ⌝ }
+    ensures { λ r. ⌜ r ≡ stepTime n (own .0) q load (now (inflight .entry)) (modelsIn (now (models .entry))) ⌝ }
 {
     if q < 2 {
         return 0.0;
     }
     let mut times = [0.0f64; 16];
     let m = n - 1;
-    peer_times(own, load, inflight, numbers, &mut times[..m]);
+    peer_times(own, load, inflight, models, &mut times[..m]);
     floats::sort(&mut times[..m]);
     at_or_never(&times[..m], q - 2)
 }
@@ -94,30 +76,30 @@ fn at_or_never(times: &[f64], k: usize) -> f64
     1.0 / 0.0
 }
 
-// The times of the peers, in rising order of their numbers. A part: there are at most 15 of them, and 16 models.
-fn peer_times(own: ReplicaId, load: u64, inflight: &[u64], numbers: &[f64], times: &mut [f64])
-    requires { ⌜ (length (now times) < 16) × (load ≤ 2 ^ 40) × (length (now inflight) ≡ 16) × (length (now numbers) ≡ 48) ⌝ }
+// The times of the peers, in rising order of their numbers. A part: there are at most 15 of them, and one replica more in each table.
+fn peer_times(own: ReplicaId, load: u64, inflight: &[u64], models: &[f64], times: &mut [f64])
+    requires { ⌜ (length (now times) < 16) × (load ≤ 2 ^ 40) × (length (now inflight) ≡ length (now times) + 1) × (length (now models) ≡ (length (now times) + 1) * 3) ⌝ }
     requires { ⌜ InFlight (length (now times) + 1) (own .0) (inFlight (now inflight)) ⌝ }
-    ensures { λ _. ⌜ now (times .exit) ≡ peerTimes (length (now (times .entry))) (own .0) load (now (inflight .entry)) (modelsIn (now (numbers .entry))) ⌝ }
+    ensures { λ _. ⌜ now (times .exit) ≡ peerTimes (length (now (times .entry))) (own .0) load (now (inflight .entry)) (modelsIn (now (models .entry))) ⌝ }
 {
     let mut j = 0;
     while j < times.len() {
         let p = peer_at(own, j).0;
-        let model = model_in(numbers, p);
+        let model = model_in(models, p);
         times[j] = times::predict(model, inflight[p] + load);
         j += 1;
     }
 }
 
-// The model of p among numbers. A part: they are 16 models.
-fn model_in(numbers: &[f64], p: usize) -> PerfModel
-    requires { ⌜ (length (now numbers) ≡ 48) × (p < 16) ⌝ }
-    ensures { λ r. ⌜ r ≡ modelIn (now (numbers .entry)) p ⌝ }
+// The model of p: three numbers of the table. A part: it has them.
+fn model_in(models: &[f64], p: usize) -> PerfModel
+    requires { ⌜ (p < 16) × (p * 3 + 2 < length (now models)) ⌝ }
+    ensures { λ r. ⌜ r ≡ modelIn (now (models .entry)) p ⌝ }
 {
     PerfModel {
-        slope: numbers[p * 3],
-        delay: numbers[p * 3 + 1],
-        jitter: numbers[p * 3 + 2],
+        slope: models[p * 3],
+        delay: models[p * 3 + 1],
+        jitter: models[p * 3 + 2],
     }
 }
 

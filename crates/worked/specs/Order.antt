@@ -35,7 +35,7 @@ pub data Call : Type 0 where
   pickAssignment : (n own quorum d : ℕ) (total : TotalShards) (size : ℕ) (peers : List PeerRecord) (faults : List ℕ) (rows : ℕ) → Call
   fullCopies : (n d : ℕ) (total : TotalShards) (rows : ℕ) → Call
   minShards : (n f d majority alive : ℕ) → Call
-  policy : (n f own d w majority size : ℕ) (inflight : List ℕ) (alive : ℕ) (initial table : List ℕ) → Call
+  policy : (n f own d w majority size : ℕ) (inflight : List ℕ) (models : List Float) (alive : ℕ) (initial table : List ℕ) → Call
   gossip : (n own source d w available : ℕ) (rows : List ℕ) (alive room : ℕ) → Call
   opening : (n quorum d w : ℕ) → Call
   reply : (t : Tally) (r : Reply) → Call
@@ -54,7 +54,7 @@ casesOf (layoutCommits n quorum d total answered loads faults rows) = commitsCas
 casesOf (pickAssignment n own quorum d total size peers faults rows) = pickCases n own quorum d total size peers faults rows
 casesOf (fullCopies n d total rows) = copiesCases n d total rows
 casesOf (minShards n f d majority alive) = floorCases n f d majority alive
-casesOf (policy n f own d w majority size inflight alive initial table) = policyCases n f own d w majority size inflight alive initial table
+casesOf (policy n f own d w majority size inflight models alive initial table) = policyCases n f own d w majority size inflight models alive initial table
 casesOf (gossip n own source d w available rows alive room) = gossipCases n own source d w available rows alive room
 casesOf (opening n quorum d w) = openCases n quorum d w
 casesOf (reply t r) = replyCases t r
@@ -79,7 +79,7 @@ cases-rise (layoutCommits n quorum d total answered loads faults rows) = refl
 cases-rise (pickAssignment n own quorum d total size peers faults rows) = refl
 cases-rise (fullCopies n d total rows) = refl
 cases-rise (minShards n f d majority alive) = refl
-cases-rise (policy n f own d w majority size inflight alive initial table) = refl
+cases-rise (policy n f own d w majority size inflight models alive initial table) = refl
 cases-rise (gossip n own source d w available rows alive room) = refl
 cases-rise (opening n quorum d w) = refl
 cases-rise (reply t r) = refl

@@ -15,11 +15,11 @@ best-shards-spec =
     (tie.spec
     (λ c κs. search needs)
     (λ c.
-    let s = c .before .before .before in
+    let s = c .before .before .before .before .before in
     omega (arith, best-small _ _ _ _ _ _ _ _ (s .pre .0 .4) (s .pre .0 .7) _ (c .best-step .ensures)))
     (λ c. search needs)
     (λ c.
-    let s = c .before .before .before in
+    let s = c .before .before .before .before .before in
     omega (arith, best-le _ _ _ _ _ _ _ _ (s .pre .0 .4) (s .pre .0 .7) _ (c .best-step .ensures)))
     (λ c. rw (c .before .if1 .taken, c .best-step .ensures))
     (λ c. search needs)

@@ -18,6 +18,6 @@ pick-assignment-policy-rows-spec =
     (λ c κs. policy-holds _ _ _ _ _ _ _ _ _ _ _ _ _ _ (c .pick-assignment-policy .ensures))
     (λ c.
     let p = c .before in
-    let a = p .before .before .before .args in
+    let a = p .before .before .before .before .before .args in
     c .rows-of .ensures
     ∙ ap (λ (o : Outcome (Option ℕ)). spelled (rowsOf (a .n) (a .d) (a .majority) o (rowsIn (a .initial .now)) (rowsIn (a .table .now)))) (p .pick-assignment-policy .ensures)))

@@ -12,13 +12,7 @@ policy-spec =
     (λ c κs. search needs)
     (λ c κs. search needs)
     (λ c κs. search needs)
-    (λ c κs. search needs)
-    (λ c κs. search needs)
-    (λ c κs. search needs)
     (λ c.
     let a = c .before in
     let t = a .before in
-    let u = t .before in
-    let m = u .before in
-    let i = m .before in
-    rw (policy-in-is, c .fitting .ensures, a .pick-assignment-policy .ensures, t .is-set2 .ensures, u .is-set .ensures, m .from-models .ensures, i .from-in-flight .ensures, i .before .policy-tables .ensures)))
+    rw (policy-in-is, c .fitting .ensures, a .pick-assignment-policy .ensures, t .is-set2 .ensures, t .before .is-set .ensures)))

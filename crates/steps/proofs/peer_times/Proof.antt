@@ -11,17 +11,18 @@ use Rattle.steps.proofs.peer_times.Statement.{statement}
 use Rattle.steps.proofs.peer_times.Tie as tie
 
 abbrev Inv-loop : tie.InvT-loop
-Inv-loop own load inflight numbers times₀ j₀ times j =
-    Filled (λ (k : ℕ). peerTime load inflight (modelsIn numbers) (peerAt (own .0) k)) (length times₀) times j
+Inv-loop own load inflight models times₀ j₀ times j =
+    Filled (λ (k : ℕ). peerTime load inflight (modelsIn models) (peerAt (own .0) k)) (length times₀) times j
 
 abbrev μ-loop : tie.MeasureT-loop
-μ-loop own load inflight numbers times₀ j₀ times j = length times₀ - j
+μ-loop own load inflight models times₀ j₀ times j = length times₀ - j
 
 -- the peer at the loop's place is one of the sixteen
 small : tie.Need-model-in-requires Inv-loop μ-loop
 small c κs =
     let h = peer-inside _ _ _ _ _ (c .before .loop-test .taken) (c .before .before .loop .inv .1) (c .peer-at .ensures) in
-    search needs
+    let g = c .before .before .before .before .before .before .pre in
+    (omega (arith, h, g .0 .0), omega (arith, h, g .0 .3))
 
 pub peer-times-spec : {M : Type 1} → statement M
 unfolding peerTimes
@@ -33,11 +34,11 @@ peer-times-spec =
     (λ c. search filled-none)
     (λ c κs. search needs)
     small
-    (λ c. omega (arith, small (c .before) (c .model-in .lifetimes) .1))
+    (λ c. omega (arith, small (c .before) (c .model-in .lifetimes) .0))
     (λ c.
     let m = c .before in
-    let h = small (m .before) (m .model-in .lifetimes) .1 in
-    omega (arith, h, m .before .before .before .before .before .before .before .pre .0 .2))
+    let g = m .before .before .before .before .before .before .before .pre in
+    omega (arith, small (m .before) (m .model-in .lifetimes) .1, g .0 .2, g .0 .3))
     (λ c.
     let y = c .before .before in
     let l = y .before .before in
@@ -56,7 +57,7 @@ peer-times-spec =
     let a = s .args in
     let t =
     peer-time (a .own .0) (l .loop .j) _ _ _ (y .before .loop-test .taken) (l .loop .inv .1) (y .peer-at .ensures) (a .load) (a .inflight .now)
-    (a .numbers .now) _ _ (s .pre .0 .0) (g .model-in .ensures) (c .predict .ensures) in
-    filled-more (λ (k : ℕ). peerTime (a .load) (a .inflight .now) (modelsIn (a .numbers .now)) (peerAt (a .own .0) k)) _ _ _ (l .loop .inv) _ (omega arith) t)
+    (a .models .now) _ _ (s .pre .0 .0) (g .model-in .ensures) (c .predict .ensures) in
+    filled-more (λ (k : ℕ). peerTime (a .load) (a .inflight .now) (modelsIn (a .models .now)) (peerAt (a .own .0) k)) _ _ _ (l .loop .inv) _ (omega arith) t)
     (λ c. search needs)
     (λ c. filled-done _ _ _ _ (c .before .loop .inv) (omega arith)))
