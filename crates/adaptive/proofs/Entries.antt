@@ -141,7 +141,8 @@ module _ (n f own d w majority size : ℕ) (inflight : List ℕ) (models : List 
       uncounted t = is-accepted _ got _ none e z (rw (not-false balanced b, ← is-larger, ← h, t))
 
 -- ---- `pick_assignment_policy_rows`: the table has what was chosen
-module _ (n f own d w majority size : ℕ) (inflight : List ℕ) (models : List Float) (alive : ℕ) (initial table : List ℕ) (adaptive balanced : Bool) where
+module _ (n f own d w majority size : ℕ) (inflight : List ℕ) (models : List Float) (alive : ℕ) (initial table : List ℕ)
+    (adaptive balanced : Bool) where
   pub policy-holds : {o : Outcome (Option ℕ)} → o ≡ policyOf n f own d w majority size inflight models alive initial table adaptive balanced → Holds n d majority o (length initial) (length table)
   policy-holds {o} e = go o (sym e)
     where

@@ -2,7 +2,7 @@
 -- Assumes nothing.
 use mathlib.Core.Path.{_≡_, refl}
 use mathlib.Core.Bool.{Bool, true, false}
-use mathlib.Core.List.{List, [], _∷_, _++_, map, foldr}
+use mathlib.Core.List.{List, [], _∷_, _++_, map}
 use mathlib.Core.Option.{Option, none, some}
 use Prim.Native.Nat.{ℕ, _-_, _*_, _^_}
 use lib.Ieee.{Float, add, mul, div, ofInt, ofBits}
@@ -16,6 +16,7 @@ use Rattle.refusals.specs.Outcome.{Outcome, refused, accepted}
 use Rattle.refusals.specs.Limits.{peersFit, isPopulation, isShards, isQuorum}
 use Rattle.times.specs.declared.PerfModel.{PerfModel}
 use Rattle.times.specs.Times.{predictOf, modelsIn}
+use Rattle.times.specs.TimeLaws.{numbersOf}
 use Rattle.times.proofs.Worked.{one, two, ten, model}
 use Rattle.adaptive.specs.Floor.{floorOf, floorRefusal, minShardsOf}
 use Rattle.steps.specs.Steps.{still, peerTimes, stepTime, timeOfStep, bestStep}
@@ -122,11 +123,27 @@ wordEach : ℕ → List ℕ → List ℕ
 wordEach n inflight = take n (inflight ++ replicate 16 0)
 
 modelEach : ℕ → List PerfModel → List Float
-modelEach n models = take (n * 3) (foldr (λ (m : PerfModel) (l : List Float). m .slope ∷ m .delay ∷ m .jitter ∷ l) (replicate 48 plusZero) models)
+modelEach n models = take (n * 3) (numbersOf models ++ replicate 48 plusZero)
 
 -- the two tables and the part of them by their words
 words : ℕ → ℕ → ℕ → ℕ → ℕ → ℕ → ℕ → List ℕ → List PerfModel → ℕ → List ℕ → List ℕ → Bool → Bool → Outcome (Option ℕ) → List ℕ → Line
-words n f own d w majority size inflight models alive initial table adaptive balanced choice part = record { n = n; f = f; own = own; d = d; w = w; majority = majority; size = size; inflight = wordEach n inflight; models = modelEach n models; alive = alive; initial = initial; table = table; adaptive = adaptive; balanced = balanced; says = (choice, part) }
+words n f own d w majority size inflight models alive initial table adaptive balanced choice part = record {
+  n = n;
+  f = f;
+  own = own;
+  d = d;
+  w = w;
+  majority = majority;
+  size = size;
+  inflight = wordEach n inflight;
+  models = modelEach n models;
+  alive = alive;
+  initial = initial;
+  table = table;
+  adaptive = adaptive;
+  balanced = balanced;
+  says = (choice, part);
+}
 
 -- and by their rows
 line : ℕ → ℕ → ℕ → ℕ → ℕ → ℕ → ℕ → List ℕ → List PerfModel → ℕ → List ℕ → List ℕ → Bool → Bool → Outcome (Option ℕ) → List ℕ → Line

@@ -154,7 +154,8 @@ module _ (t : Bool) (o : Option ℕ) where
       go false = (λ e. inl refl, λ h. refl)
 
 -- ---- `pick_assignment_policy` and `pick_assignment_policy_rows`
-module _ (n f own d w majority size : ℕ) (inflight : List ℕ) (models : List Float) (alive : ℕ) (initial table : List ℕ) (adaptive balanced : Bool) where
+module _ (n f own d w majority size : ℕ) (inflight : List ℕ) (models : List Float) (alive : ℕ) (initial table : List ℕ)
+    (adaptive balanced : Bool) where
   -- the number that refuses, or 0
   abbrev number : ℕ
   number = policyRefusal n f own d w majority size inflight models alive initial table

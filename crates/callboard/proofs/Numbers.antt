@@ -97,4 +97,5 @@ module _ (n f own d w majority size adaptive balanced : ℕ) (models : List Floa
   unfolding policyIn policyOf
   policy-in-is =
       let k = policyRefusal n f own d w majority size inflight models alive initial table in
-      rw (choice-number n f own d w majority size adaptive balanced models inflight alive initial table fits, lent-is fits) (fitted k fits _)
+      rw (choice-number n f own d w majority size adaptive balanced models inflight alive initial table fits, lent-is fits)
+      (fitted k fits _)

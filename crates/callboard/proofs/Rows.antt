@@ -39,7 +39,8 @@ module _ (n f own d w majority size adaptive balanced : ℕ) (models : List Floa
   abbrev unfit : Outcome (Option ℕ) → Outcome (Option ℕ)
   unfit o = andThen o (λ _. refused TABLE)
 
-  in-is : (lent : Bool) → policyIn n f own d w majority size adaptive balanced models inflight alive initial table lent ≡ fittingOf lent policy
+  in-is : (lent : Bool)
+      → policyIn n f own d w majority size adaptive balanced models inflight alive initial table lent ≡ fittingOf lent policy
   in-is lent = policy-in-is n f own d w majority size adaptive balanced models inflight alive initial table lent
 
   pub held : (lent : Bool) {o : Outcome (Option ℕ)} → o ≡ policyIn n f own d w majority size adaptive balanced models inflight alive initial table lent
@@ -56,7 +57,8 @@ module _ (n f own d w majority size adaptive balanced : ℕ) (models : List Floa
 
   unrefused : (c : Option ℕ) → policy ≡ accepted c → policyRefusal n f own d w majority size inflight models alive initial table ≡ 0
   unrefused none e = initial-means n f own d w majority size inflight models alive initial table (isSet adaptive) (isSet balanced) .0 e .0
-  unrefused (some c) e = choice-means n f own d w majority size inflight models alive initial table (isSet adaptive) (isSet balanced) c .0 e .unrefused
+  unrefused (some c) e =
+      choice-means n f own d w majority size inflight models alive initial table (isSet adaptive) (isSet balanced) c .0 e .unrefused
 
   -- an accepted choice has n rows
   n-rows : (c : Option ℕ) → policy ≡ accepted c → length (wordsFor (accepted c)) ≡ n * 4
@@ -84,6 +86,7 @@ module _ (n f own d w majority size adaptive balanced : ℕ) (models : List Floa
       fitted l (refused k) u = no-words rows
       fitted l (accepted c) u = all-copied (wordsFor (accepted c)) rows (n-rows c u ∙ sym l)
 
-      go : (b : Bool) → isTable n (length rows) ≡ b → copied (wordsFor (fittingOf b policy)) rows ≡ rowsLeft n d majority (fittingOf b policy) initial table rows
+      go : (b : Bool) → isTable n (length rows) ≡ b
+          → copied (wordsFor (fittingOf b policy)) rows ≡ rowsLeft n d majority (fittingOf b policy) initial table rows
       go true t = fitted (eqb-true (length rows) (n * 4) t) policy refl
       go false t = unwritten policy

@@ -17,8 +17,8 @@ module _ {A : Type 0} (le : A → A → Bool) (f : ℕ → A) (top : A) where
   least-done n zero best low p h g e = absurd (omega arith)
   least-done n (suc k) best low p h g e = let q : n - 1 ≡ k = omega arith in rw (q, e)
 
-  module _ (above : (x : A) → le top x ≡ true → x ≡ top) (i best : ℕ) (low : A) (found : Least i best low) (t : A) (r : Bool) (value : t ≡ f i)
-      (test : r ≡ le low t) where
+  module _ (above : (x : A) → le top x ≡ true → x ≡ top) (i best : ℕ) (low : A) (found : Least i best low) (t : A) (r : Bool)
+      (value : t ≡ f i) (test : r ≡ le low t) where
     pub least-kept : (b : ℕ) (l : A) → r ≡ true → b ≡ best → l ≡ low → Least (i + 1) b l
     unfolding leastUpTo
     least-kept b l e p q = go i found value

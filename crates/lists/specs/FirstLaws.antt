@@ -16,7 +16,8 @@ use Rattle.lists.specs.First.{firstThat, betterBy, leastThat, leastUpTo}
 use Rattle.lists.specs.SortLaws.{placed-where, reflexive, AtLeast, Ordered, insert-ordered, sorted-ordered, sorted-listed}
 
 -- ---- what was considered once changes nothing when it is considered again
-module _ {A : Type 0} (le : A → A → Bool) (total : (x y : A) → le x y ≡ false → le y x ≡ true) (trans : (x y z : A) → le x y ≡ true → le y z ≡ true → le x z ≡ true)
+module _ {A : Type 0} (le : A → A → Bool) (total : (x y : A) → le x y ≡ false → le y x ≡ true)
+    (trans : (x y z : A) → le x y ≡ true → le y z ≡ true → le x z ≡ true)
     (t : A → Bool) where
   abbrev considering : Option A → A → Option A
   considering b x = cond (t x) (betterBy le b x) b
@@ -54,7 +55,8 @@ module _ {A : Type 0} (le : A → A → Bool) (total : (x y : A) → le x y ≡ 
       go true true (some c) h = moved c (le c x) refl (at-most c (le c y) refl h)
       go true false (some c) h = h
 
-module _ {A : Type 0} (le : A → A → Bool) (total : (x y : A) → le x y ≡ false → le y x ≡ true) (trans : (x y z : A) → le x y ≡ true → le y z ≡ true → le x z ≡ true) where
+module _ {A : Type 0} (le : A → A → Bool) (total : (x y : A) → le x y ≡ false → le y x ≡ true)
+    (trans : (x y z : A) → le x y ≡ true → le y z ≡ true → le x z ≡ true) where
   module _ (t : A → Bool) where
     -- y is at most all that may have been found
     abbrev Above : A → Option A → Type 0
@@ -103,13 +105,15 @@ module _ {A : Type 0} (le : A → A → Bool) (total : (x y : A) → le x y ≡ 
     onto-first : (acc xs : List A) → Ordered le acc → firstThat t (sortOntoBy le acc xs) ≡ foldl stepBy (firstThat t acc) xs
     onto-first acc [] o = refl
     onto-first acc (x ∷ xs) o =
-        onto-first (insertBy le x acc) xs (insert-ordered le total trans x acc o) ∙ ap (λ (b : Option A). foldl stepBy b xs) (insert-first x acc o)
+        onto-first (insertBy le x acc) xs (insert-ordered le total trans x acc o)
+        ∙ ap (λ (b : Option A). foldl stepBy b xs) (insert-first x acc o)
 
     pub first-is-least : (xs : List A) → firstThat t (sortedBy le xs) ≡ leastThat le t xs
     first-is-least xs = onto-first [] xs tt
 
 -- an order that also tells any two elements apart of which F holds
-module _ {A : Type 0} (le : A → A → Bool) (total : (x y : A) → le x y ≡ false → le y x ≡ true) (trans : (x y z : A) → le x y ≡ true → le y z ≡ true → le x z ≡ true)
+module _ {A : Type 0} (le : A → A → Bool) (total : (x y : A) → le x y ≡ false → le y x ≡ true)
+    (trans : (x y z : A) → le x y ≡ true → le y z ≡ true → le x z ≡ true)
     (F : A → Type 0) (antisym : (x y : A) → F x → F y → le x y ≡ true → le y x ≡ true → x ≡ y) where
   module _ (t : A → Bool) where
     -- ---- what the first is

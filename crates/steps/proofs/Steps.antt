@@ -23,7 +23,8 @@ use Rattle.steps.specs.StepLaws.{shares-positive, steps-all, step-shards
 pub model-read : (l : List Float) (p : ℕ) (d : Float) → p * 3 + 2 < length l
     → record { slope = getD l (p * 3) d; delay = getD l (p * 3 + 1) d; jitter = getD l (p * 3 + 2) d } ≡ modelIn l p
 model-read l p d h =
-    rw (inside-any l (p * 3) d plusZero (omega arith), inside-any l (p * 3 + 1) d plusZero (omega arith), inside-any l (p * 3 + 2) d plusZero h)
+    let at : (k : ℕ) → k < length l → getD l k d ≡ getD l k plusZero = λ k g. inside-any l k d plusZero g in
+    rw (at (p * 3) (omega arith), at (p * 3 + 1) (omega arith), at (p * 3 + 2) h)
 
 -- ---- the j-th of m peers, p, and its time; L is the length of the lent list
 module _ (own j p L m : ℕ) (small : j < L) (same : L ≡ m) (place : p ≡ peerAt own j) where
@@ -64,7 +65,8 @@ module _ (d majority size : ℕ) where
     shares = mul-assoc (size / d + 1) (d / majority) (i + 1) ∙ ap (λ (k : ℕ). (size / d + 1) * k) (mul-comm (d / majority) (i + 1))
 
     pub timed : (n f own : ℕ) (inflight : List ℕ) (models : List PerfModel) (t : Float)
-        → t ≡ stepTime n own (majority + f - i) (loadOf * (i + 1)) inflight models → t ≡ timeOfStep n f own d majority size inflight models i
+        → t ≡ stepTime n own (majority + f - i) (loadOf * (i + 1)) inflight models
+        → t ≡ timeOfStep n f own d majority size inflight models i
     unfolding timeOfStep
     timed n f own inflight models t e = e ∙ ap (λ (k : ℕ). stepTime n own (majority + f - i) k inflight models) shares
 

@@ -10,7 +10,7 @@ ghost use Rattle.steps.specs.Steps.{inFlight, peerAt, peerTimes, stepTim
 use bitmap::ReplicaId;
 use times::PerfModel;
 
-// The first step with the least time in total order. A part: the numbers have been tested, and there are a word and a model for each replica.
+// The first step with the least time in total order. A part: the numbers have been tested, and each replica has a word and a model.
 pub fn best_step(
     n: usize,
     f: usize,

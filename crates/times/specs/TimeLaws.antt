@@ -1,24 +1,42 @@
--- What is true of the times: the table's length and places, that each time is a double, and which are finite; and of a shard's length. Assumes nothing.
+-- What is true of models in a list of numbers; of the times: the table's length and places, that each is a double, and which are
+-- finite; and of a shard's length. Assumes nothing.
 use mathlib.Core.Path.{_≡_, refl, sym, ap, subst, _∙_}
 use mathlib.Core.Logic.{_⊎_, inl, inr}
 use mathlib.Core.Bool.{Bool, true, false}
-use mathlib.Core.List.{List}
-use Prim.Native.Nat.{ℕ, suc, _+_, _-_, _*_, _/_, _%_, _^_, _≤_, _<_, suc-le-suc, max}
-use native.Mathlib.Nat.{suc-mul, mul-le-mul-right, zero-lt-suc, div-eq-of-lt, mod-eq-of-lt, mul-add-div-right, mul-add-mod-self-right, div-lt-iff-lt-mul, lt-div-mul-add, le-of-suc-le-suc}
+use mathlib.Core.List.{List, [], _∷_}
+use Prim.Native.Nat.{ℕ, zero, suc, _+_, _-_, _*_, _/_, _%_, _^_, _≤_, _<_, suc-le-suc, max}
+use native.Mathlib.Nat.{suc-mul, mul-le-mul-right, zero-lt-suc, le-of-suc-le-suc, not-suc-le-zero}
+use native.Mathlib.Nat.{div-eq-of-lt, mod-eq-of-lt, mul-add-div-right, mul-add-mod-self-right, div-lt-iff-lt-mul, lt-div-mul-add}
 use native.Mathlib.Omega.{arith}
 use lib.Ieee.{Float, nan, inf, fin, binary64, fits, add, mul}
 use lib.Ieee.Fits.{inf-fits, cond-fits, add-fits}
-use lib.ListN.{length}
+use lib.ListN.{length, getD}
 use Rattle.lists.specs.All.{AllOf}
 use Rattle.lists.specs.AllLaws.{all-of-means}
 use Rattle.lists.specs.Below.{eachBelow}
 use Rattle.lists.specs.BelowLaws.{each-below-length, each-below-at}
 use Rattle.floats.specs.Floats.{plusZero, isFinite}
 use Rattle.floats.specs.FirstLaws.{Fits}
-use Rattle.times.specs.Times.{never, predictOf, settled, replyTime, timeAt, shardLength, timeOf, cell, timesOf, timeIn}
+use Rattle.times.specs.Times.{never, predictOf, modelIn, settled, replyTime, timeAt, shardLength, timeOf, cell, timesOf, timeIn}
+use Rattle.times.specs.declared.PerfModel.{PerfModel}
 use Rattle.times.specs.declared.Peer.{Peer}
 use Rattle.times.specs.declared.Peer.the-variants.{Silent, Heard}
 use Rattle.times.specs.declared.PeerRecord.{PeerRecord}
+
+-- ---- the models that a list of numbers has are those whose numbers it lists
+abbrev pub numbersOf : List PerfModel → List Float
+numbersOf [] = []
+numbersOf (m ∷ ms) = m .slope ∷ m .delay ∷ m .jitter ∷ numbersOf ms
+
+pub model-listed : (ms : List PerfModel) (p : ℕ) (d : PerfModel) → p < length ms → modelIn (numbersOf ms) p ≡ getD ms p d
+model-listed [] p d h = absurd (not-suc-le-zero h)
+model-listed (m ∷ ms) zero d h = refl
+model-listed (m ∷ ms) (suc p) d h =
+    let e : suc p * 3 ≡ suc (suc (suc (p * 3))) = omega (arith, suc-mul p 3) in
+    let f : suc p * 3 + 1 ≡ suc (suc (suc (p * 3 + 1))) = omega (arith, suc-mul p 3) in
+    let g : suc p * 3 + 2 ≡ suc (suc (suc (p * 3 + 2))) = omega (arith, suc-mul p 3) in
+    let at : ℕ → Float = λ k. getD (numbersOf (m ∷ ms)) k plusZero in
+    rw (ap at e, ap at f, ap at g) (model-listed ms p d (le-of-suc-le-suc h))
 
 -- ---- a time is finite, or it is silence
 pub settled-finite : (t : Float) → (isFinite (settled t) ≡ true) ⊎ (settled t ≡ never)

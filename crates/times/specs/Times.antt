@@ -33,7 +33,11 @@ predictOf m x = add binary64 (add binary64 (mul binary64 (m .slope) (div binary6
 
 -- ---- models as numbers: slope, delay and jitter of the replica p are at p × 3; what a list lacks is 0
 abbrev pub modelIn : List Float → ℕ → PerfModel
-modelIn numbers p = record { slope = getD numbers (p * 3) plusZero; delay = getD numbers (p * 3 + 1) plusZero; jitter = getD numbers (p * 3 + 2) plusZero }
+modelIn numbers p = record {
+  slope = getD numbers (p * 3) plusZero;
+  delay = getD numbers (p * 3 + 1) plusZero;
+  jitter = getD numbers (p * 3 + 2) plusZero;
+}
 
 unfoldable pub modelsIn : List Float → List PerfModel
 modelsIn numbers = eachBelow (modelIn numbers) 16

@@ -54,7 +54,8 @@ casesOf (layoutCommits n quorum d total answered loads faults rows) = commitsCas
 casesOf (pickAssignment n own quorum d total size peers faults rows) = pickCases n own quorum d total size peers faults rows
 casesOf (fullCopies n d total rows) = copiesCases n d total rows
 casesOf (minShards n f d majority alive) = floorCases n f d majority alive
-casesOf (policy n f own d w majority size inflight models alive initial table) = policyCases n f own d w majority size inflight models alive initial table
+casesOf (policy n f own d w majority size inflight models alive initial table) =
+    policyCases n f own d w majority size inflight models alive initial table
 casesOf (gossip n own source d w available rows alive room) = gossipCases n own source d w available rows alive room
 casesOf (opening n quorum d w) = openCases n quorum d w
 casesOf (reply t r) = replyCases t r

@@ -14,8 +14,21 @@ pick-assignment-policy-spec =
     (λ c. let i = c .before in unbalanced _ _ _ _ _ _ _ _ _ _ _ _ _ (i .before .policy-refusal .ensures) (i .if1 .left) _ _ (c .if2 .taken))
     (λ c κs.
     let i = c .before in
-    let s = tested _ _ _ _ _ _ _ _ _ _ _ _ _ (i .before .policy-refusal .ensures) (i .if1 .left) in
-    ((omega (arith, s .population), s .population .1, s .tolerance, omega (arith, s .shards), s .shards .0, s .enough .0, s .enough .1, s .multiple, s .small, s .initial-rows), (s .a-word-each, s .a-model-each, s .in-flight)))
+    let s = tested _ _ _ _ _ _ _ _ _ _ _ _ _ (i .before .policy-refusal .ensures) (i .if1 .left) in (
+      (
+        omega (arith, s .population),
+        s .population .1,
+        s .tolerance,
+        omega (arith, s .shards),
+        s .shards .0,
+        s .enough .0,
+        s .enough .1,
+        s .multiple,
+        s .small,
+        s .initial-rows,
+      ),
+      (s .a-word-each, s .a-model-each, s .in-flight),
+    ))
     (λ c κs. search needs)
     (λ c κs.
     let i = c .before .before .before in

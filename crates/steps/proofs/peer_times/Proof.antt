@@ -58,6 +58,7 @@ peer-times-spec =
     let t =
     peer-time (a .own .0) (l .loop .j) _ _ _ (y .before .loop-test .taken) (l .loop .inv .1) (y .peer-at .ensures) (a .load) (a .inflight .now)
     (a .models .now) _ _ (s .pre .0 .0) (g .model-in .ensures) (c .predict .ensures) in
-    filled-more (λ (k : ℕ). peerTime (a .load) (a .inflight .now) (modelsIn (a .models .now)) (peerAt (a .own .0) k)) _ _ _ (l .loop .inv) _ (omega arith) t)
+    filled-more (λ (k : ℕ). peerTime (a .load) (a .inflight .now) (modelsIn (a .models .now)) (peerAt (a .own .0) k)) _ _ _
+    (l .loop .inv) _ (omega arith) t)
     (λ c. search needs)
     (λ c. filled-done _ _ _ _ (c .before .loop .inv) (omega arith)))

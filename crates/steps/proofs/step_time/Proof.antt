@@ -56,5 +56,5 @@ step-time-spec =
     let l = lent {A = Float} (s .args .n - 1) (replicate 16 plusZero) (omega arith) in
     let b = back {A = Float} (s .args .n - 1) (replicate 16 plusZero) (omega arith) (p .peer-times .last .1 .1 .1 .1 .0) (p .peer-times .kept .1 .1 .1 .1 .0) in
     let e = back {A = Float} (s .args .n - 1) _ (room (o .before .before)) (o .sort .last .0) (o .sort .kept .0) in
-    step-is (s .args .n) (s .args .own .0) (s .args .q) (s .args .load) _ (s .args .inflight .now) (modelsIn (s .args .models .now)) (p .before .before .if1 .left) l _ _ _ _ _
-    (p .peer-times .ensures) b (o .sort .ensures) e (c .at-or-never .ensures)))
+    step-is (s .args .n) (s .args .own .0) (s .args .q) (s .args .load) _ (s .args .inflight .now) (modelsIn (s .args .models .now))
+    (p .before .before .if1 .left) l _ _ _ _ _ (p .peer-times .ensures) b (o .sort .ensures) e (c .at-or-never .ensures)))
