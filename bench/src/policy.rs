@@ -34,10 +34,7 @@ pub fn cases() -> Vec<Case> {
         let rows = Case::new(format!("policy_rows {what}"), || {
             policy(other, callboard::policy_rows)
         });
-        cases.extend([choice, rows].map(|case| match w {
-            WIDE => case.beside("every row of a table of 855 to 3,616 rows is checked"),
-            _ => case,
-        }));
+        cases.extend([choice, rows]);
     }
     cases
 }

@@ -16,7 +16,7 @@ use Rattle.refusals.specs.LimitLaws.{InFlight}
 use Rattle.refusals.specs.Limits.{mostShards}
 use Rattle.times.specs.declared.PerfModel.{PerfModel}
 use Rattle.times.specs.Times.{never, predictOf, modelIn, modelsIn}
-use Rattle.steps.specs.Steps.{peerAt, inFlight, still, peerTime, peerTimes, stepTime, stepShards, timeOfStep, bestStep}
+use Rattle.steps.specs.Steps.{peerAt, inFlight, still, peerTime, peerTimes, stepTime, stepShards, stepQuorum, timeOfStep, bestStep}
 use Rattle.steps.specs.StepLaws.{shares-positive, steps-all, step-shards-le, peer-below, peer-not-own, best-step-means}
 
 -- ---- a model, read: what a table lacks does not matter
@@ -65,10 +65,10 @@ module _ (d majority size : ℕ) where
     shares = mul-assoc (size / d + 1) (d / majority) (i + 1) ∙ ap (λ (k : ℕ). (size / d + 1) * k) (mul-comm (d / majority) (i + 1))
 
     pub timed : (n f own : ℕ) (inflight : List ℕ) (models : List PerfModel) (t : Float)
-        → t ≡ stepTime n own (majority + f - i) (loadOf * (i + 1)) inflight models
+        → t ≡ stepTime n own (stepQuorum majority f i) (loadOf * (i + 1)) inflight models
         → t ≡ timeOfStep n f own d majority size inflight models i
     unfolding timeOfStep
-    timed n f own inflight models t e = e ∙ ap (λ (k : ℕ). stepTime n own (majority + f - i) k inflight models) shares
+    timed n f own inflight models t e = e ∙ ap (λ (k : ℕ). stepTime n own (stepQuorum majority f i) k inflight models) shares
 
     pub shared-load-le : i < majority → d ≤ mostShards → size ≤ 2 ^ 30 → loadOf * (i + 1) ≤ 2 ^ 40
     shared-load-le h e g =
