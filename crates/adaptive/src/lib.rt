@@ -257,20 +257,13 @@ fn peers_fit(n: usize, own: ReplicaId, inflight: &[u64]) -> bool
 {
     let mut p = 0;
     while p < n {
-        if refusals::is_overfull(own, ReplicaId(p), in_flight(inflight, p)) {
+        if refusals::is_overfull(own, ReplicaId(p), bitmap::word_at(inflight, p)) {
             return false;
         } else {
             p += 1;
         }
     }
     true
-}
-
-// The bytes in flight to p; what the table lacks is 0.
-fn in_flight(inflight: &[u64], p: usize) -> u64
-    ensures { λ r. ⌜ r ≡ inFlight (now (inflight .entry)) p ⌝ }
-{
-    if p < inflight.len() { inflight[p] } else { 0 }
 }
 
 // Whether a balanced table has that many words: those of n rows for each count, or none. A part: the numbers have been tested.

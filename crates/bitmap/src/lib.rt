@@ -2,7 +2,7 @@
 ghost use mathlib.Core.Path.{_≡_};
 ghost use Prim.Native.Nat.{_+_, _<_, _≤_};
 ghost use lib.Bits.{bitOr};
-ghost use lib.ListN.{length, take, replicate};
+ghost use lib.ListN.{length, getD, take, replicate};
 ghost use Rattle.bitmap.specs.Mask.{hasBit, withBit, isBelow, count, run, runModulo};
 
 // The number of a replica. It is wide, so that a number out of range is refused and not cut.
@@ -79,6 +79,16 @@ pub fn fill(row: u64, rows: &mut [u64])
         rows[s] = row;
         s += 1;
     }
+}
+
+// The word at i; what the table lacks is 0.
+pub fn word_at(words: &[u64], i: usize) -> u64
+    ensures { λ r. ⌜ r ≡ getD (now (words .entry)) i 0 ⌝ }
+{
+    if i < words.len() {
+        return words[i];
+    }
+    0
 }
 
 // The first words of a table, copied. A part: it has as many.

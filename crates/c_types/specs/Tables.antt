@@ -19,14 +19,11 @@ isRecords len each n = eqb len (n * each)
 abbrev pub floatAt : List Float → ℕ → Float
 floatAt xs i = getD xs i plusZero
 
-abbrev pub wordAt : List ℕ → ℕ → ℕ
-wordAt xs i = getD xs i 0
-
 -- slope, delay, jitter and unreliability of the replica p stand at p × 4
 abbrev pub peerAt : ℕ → List Float → List ℕ → ℕ → PeerRecord
 peerAt heard models inflight p = record {
   peer = cond (hasBit heard p) (Heard (floatAt models (p * 4)) (floatAt models (p * 4 + 1)) (floatAt models (p * 4 + 2)) (floatAt models (p * 4 + 3))) Silent;
-  inflight = wordAt inflight p;
+  inflight = getD inflight p 0;
 }
 
 unfoldable pub fromPeers : ℕ → List Float → List ℕ → List PeerRecord

@@ -15,7 +15,7 @@ ghost use Rattle.layout_text.specs.LayoutText.{answer as init};
 ghost use Rattle.gossip.specs.Gossip.{gossiped};
 ghost use Rattle.tally.specs.Tally.{answer as told};
 ghost use Rattle.c_types.specs.CTypes.{wordOf, isSet, toTotal, toAnswer, toFlag, toDone, toFloat, toLayout, toPlan, unplannedOf, toChoice, initialOf, toReply, toProfile, fromProfile, numberOf, toReading, toTally, fromTally, tallyLeft, toOpening};
-ghost use Rattle.c_types.specs.Tables.{floatAt, wordAt, peerAt, fromPeers, isRecords};
+ghost use Rattle.c_types.specs.Tables.{floatAt, peerAt, fromPeers, isRecords};
 use adaptive::Floor;
 use adaptive::Policy;
 use assignment::Pick;
@@ -450,15 +450,6 @@ fn float_at(xs: &[f64], i: usize) -> f64
     0.0
 }
 
-fn word_at(xs: &[u64], i: usize) -> u64
-    ensures { λ r. ⌜ r ≡ wordAt (now (xs .entry)) i ⌝ }
-{
-    if i < xs.len() {
-        return xs[i];
-    }
-    0
-}
-
 // Whether a table of that many words has so many for each of n replicas. A part: that is at least one.
 pub fn is_records(len: usize, each: usize, n: usize) -> bool
     requires { ⌜ 0 < each ⌝ }
@@ -482,12 +473,12 @@ fn peer_at(heard: u64, models: &[f64], inflight: &[u64], p: usize) -> PeerRecord
                 jitter: float_at(models, p * 4 + 2),
                 unreliability: float_at(models, p * 4 + 3),
             },
-            inflight: word_at(inflight, p),
+            inflight: bitmap::word_at(inflight, p),
         };
     }
     PeerRecord {
         peer: Peer::Silent,
-        inflight: word_at(inflight, p),
+        inflight: bitmap::word_at(inflight, p),
     }
 }
 

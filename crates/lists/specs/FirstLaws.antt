@@ -56,139 +56,137 @@ module _ {A : Type 0} (le : A → A → Bool) (total : (x y : A) → le x y ≡ 
       go true false (some c) h = h
 
 module _ {A : Type 0} (le : A → A → Bool) (total : (x y : A) → le x y ≡ false → le y x ≡ true)
-    (trans : (x y z : A) → le x y ≡ true → le y z ≡ true → le x z ≡ true) where
-  module _ (t : A → Bool) where
-    -- y is at most all that may have been found
-    abbrev Above : A → Option A → Type 0
-    Above y none = Unit
-    Above y (some b) = le y b ≡ true
+    (trans : (x y z : A) → le x y ≡ true → le y z ≡ true → le x z ≡ true) (t : A → Bool) where
+  -- y is at most all that may have been found
+  abbrev Above : A → Option A → Type 0
+  Above y none = Unit
+  Above y (some b) = le y b ≡ true
 
-    first-above : (y : A) (l : List A) → AtLeast le y l → Above y (firstThat t l)
-    first-above y [] h = tt
-    first-above y (x ∷ xs) h = go (t x) (first-above y xs (h .1))
-      where
-        go : (b : Bool) → Above y (firstThat t xs) → Above y (cond b (some x) (firstThat t xs))
-        go true r = h .0
-        go false r = r
+  first-above : (y : A) (l : List A) → AtLeast le y l → Above y (firstThat t l)
+  first-above y [] h = tt
+  first-above y (x ∷ xs) h = go (t x) (first-above y xs (h .1))
+    where
+      go : (b : Bool) → Above y (firstThat t xs) → Above y (cond b (some x) (firstThat t xs))
+      go true r = h .0
+      go false r = r
 
-    -- x is strictly below y, which is at most all that may have been found: then it is the better one
-    better-strict : (x y : A) (r : Option A) → le y x ≡ false → Above y r → betterBy le r x ≡ some x
-    better-strict x y none n h = refl
-    better-strict x y (some b) n h = go (le b x) refl
-      where
-        go : (v : Bool) → le b x ≡ v → cond v (some b) (some x) ≡ some x
-        go true e = absurd (true≢false (sym (trans y b x h e) ∙ n))
-        go false e = refl
+  -- x is strictly below y, which is at most all that may have been found: then it is the better one
+  better-strict : (x y : A) (r : Option A) → le y x ≡ false → Above y r → betterBy le r x ≡ some x
+  better-strict x y none n h = refl
+  better-strict x y (some b) n h = go (le b x) refl
+    where
+      go : (v : Bool) → le b x ≡ v → cond v (some b) (some x) ≡ some x
+      go true e = absurd (true≢false (sym (trans y b x h e) ∙ n))
+      go false e = refl
 
-    -- what one element more does to what is found
-    abbrev stepBy : Option A → A → Option A
-    stepBy best x = cond (t x) (betterBy le best x) best
+  -- what one element more does to what is found
+  abbrev stepBy : Option A → A → Option A
+  stepBy best x = cond (t x) (betterBy le best x) best
 
-    module _ (x y : A) (ys : List A) (o : Ordered le (y ∷ ys)) where
-      after-first : (u w : Bool) → le y x ≡ true → firstThat t (insertBy le x ys) ≡ cond u (betterBy le (firstThat t ys) x) (firstThat t ys)
-          → cond w (some y) (firstThat t (insertBy le x ys)) ≡ cond u (betterBy le (cond w (some y) (firstThat t ys)) x) (cond w (some y) (firstThat t ys))
-      after-first true true e ih = rw e
-      after-first false true e ih = refl
-      after-first u false e ih = ih
+  module _ (x y : A) (ys : List A) where
+    after-first : (u w : Bool) → le y x ≡ true → firstThat t (insertBy le x ys) ≡ cond u (betterBy le (firstThat t ys) x) (firstThat t ys)
+        → cond w (some y) (firstThat t (insertBy le x ys)) ≡ cond u (betterBy le (cond w (some y) (firstThat t ys)) x) (cond w (some y) (firstThat t ys))
+    after-first true true e ih = rw e
+    after-first false true e ih = refl
+    after-first u false e ih = ih
 
-      before-first : (u : Bool) (r : Option A) → le y x ≡ false → Above y r → cond u (some x) r ≡ cond u (betterBy le r x) r
-      before-first true r e h = sym (better-strict x y r e h)
-      before-first false r e h = refl
+    before-first : (u : Bool) (r : Option A) → le y x ≡ false → Above y r → cond u (some x) r ≡ cond u (betterBy le r x) r
+    before-first true r e h = sym (better-strict x y r e h)
+    before-first false r e h = refl
 
-    insert-first : (x : A) (l : List A) → Ordered le l → firstThat t (insertBy le x l) ≡ stepBy (firstThat t l) x
-    insert-first x [] o = refl
-    insert-first x (y ∷ ys) o =
-        let ih = insert-first x ys (o .1) in
-        placed-where le x y ys (λ l. firstThat t l ≡ stepBy (firstThat t (y ∷ ys)) x) (λ e. after-first x y ys o (t x) (t y) e ih)
-        (λ e. before-first x y ys o (t x) (firstThat t (y ∷ ys)) e (first-above y (y ∷ ys) (reflexive le total y, o .0)))
+  insert-first : (x : A) (l : List A) → Ordered le l → firstThat t (insertBy le x l) ≡ stepBy (firstThat t l) x
+  insert-first x [] o = refl
+  insert-first x (y ∷ ys) o =
+      let ih = insert-first x ys (o .1) in
+      placed-where le x y ys (λ l. firstThat t l ≡ stepBy (firstThat t (y ∷ ys)) x) (λ e. after-first x y ys (t x) (t y) e ih)
+      (λ e. before-first x y ys (t x) (firstThat t (y ∷ ys)) e (first-above y (y ∷ ys) (reflexive le total y, o .0)))
 
-    onto-first : (acc xs : List A) → Ordered le acc → firstThat t (sortOntoBy le acc xs) ≡ foldl stepBy (firstThat t acc) xs
-    onto-first acc [] o = refl
-    onto-first acc (x ∷ xs) o =
-        onto-first (insertBy le x acc) xs (insert-ordered le total trans x acc o)
-        ∙ ap (λ (b : Option A). foldl stepBy b xs) (insert-first x acc o)
+  onto-first : (acc xs : List A) → Ordered le acc → firstThat t (sortOntoBy le acc xs) ≡ foldl stepBy (firstThat t acc) xs
+  onto-first acc [] o = refl
+  onto-first acc (x ∷ xs) o =
+      onto-first (insertBy le x acc) xs (insert-ordered le total trans x acc o)
+      ∙ ap (λ (b : Option A). foldl stepBy b xs) (insert-first x acc o)
 
-    pub first-is-least : (xs : List A) → firstThat t (sortedBy le xs) ≡ leastThat le t xs
-    first-is-least xs = onto-first [] xs tt
+  pub first-is-least : (xs : List A) → firstThat t (sortedBy le xs) ≡ leastThat le t xs
+  first-is-least xs = onto-first [] xs tt
 
 -- an order that also tells any two elements apart of which F holds
 module _ {A : Type 0} (le : A → A → Bool) (total : (x y : A) → le x y ≡ false → le y x ≡ true)
     (trans : (x y z : A) → le x y ≡ true → le y z ≡ true → le x z ≡ true)
-    (F : A → Type 0) (antisym : (x y : A) → F x → F y → le x y ≡ true → le y x ≡ true → x ≡ y) where
-  module _ (t : A → Bool) where
-    -- ---- what the first is
+    (F : A → Type 0) (antisym : (x y : A) → F x → F y → le x y ≡ true → le y x ≡ true → x ≡ y) (t : A → Bool) where
+  -- ---- what the first is
 
-    -- x is in the list and passes, and each element of the list that passes is x or stands after it
-    pub record FirstIn (xs : List A) (x : A) : Type 0 where
-      pub listed : List·Memᴰ x xs
-      pub passes : t x ≡ true
-      pub first : (y : A) → List·Memᴰ y xs → t y ≡ true → le x y ≡ true
+  -- x is in the list and passes, and each element of the list that passes is x or stands after it
+  pub record FirstIn (xs : List A) (x : A) : Type 0 where
+    pub listed : List·Memᴰ x xs
+    pub passes : t x ≡ true
+    pub first : (y : A) → List·Memᴰ y xs → t y ≡ true → le x y ≡ true
 
-    above-each : (z : A) (l : List A) → AtLeast le z l → (y : A) → List·Memᴰ y l → le z y ≡ true
-    above-each z [] h y m = absurd (List·Memᴰ·not-nil m)
-    above-each z (x ∷ xs) h y m = go (above-each z xs (h .1) y) (List·Memᴰ·cases-cons m)
-      where
-        go : (List·Memᴰ y xs → le z y ≡ true) → (y ≡ x) ⊎ List·Memᴰ y xs → le z y ≡ true
-        go ih (inl e) = ap (le z) e ∙ h .0
-        go ih (inr r) = ih r
+  above-each : (z : A) (l : List A) → AtLeast le z l → (y : A) → List·Memᴰ y l → le z y ≡ true
+  above-each z [] h y m = absurd (List·Memᴰ·not-nil m)
+  above-each z (x ∷ xs) h y m = go (above-each z xs (h .1) y) (List·Memᴰ·cases-cons m)
+    where
+      go : (List·Memᴰ y xs → le z y ≡ true) → (y ≡ x) ⊎ List·Memᴰ y xs → le z y ≡ true
+      go ih (inl e) = ap (le z) e ∙ h .0
+      go ih (inr r) = ih r
 
-    ordered-first : (l : List A) (x : A) → Ordered le l → firstThat t l ≡ some x → FirstIn l x
-    ordered-first [] x o e = absurd (Option·none-ne-some x e)
-    ordered-first (y ∷ ys) x o e = go (t y) refl (λ q. ordered-first ys x (o .1) q) e
-      where
-        after : FirstIn ys x → t y ≡ false → (z : A) → (z ≡ y) ⊎ List·Memᴰ z ys → t z ≡ true → le x z ≡ true
-        after f q z (inl r) u = absurd (true≢false (sym u ∙ ap t r ∙ q))
-        after f q z (inr r) u = f .first z r u
+  ordered-first : (l : List A) (x : A) → Ordered le l → firstThat t l ≡ some x → FirstIn l x
+  ordered-first [] x o e = absurd (Option·none-ne-some x e)
+  ordered-first (y ∷ ys) x o e = go (t y) refl (λ q. ordered-first ys x (o .1) q) e
+    where
+      after : FirstIn ys x → t y ≡ false → (z : A) → (z ≡ y) ⊎ List·Memᴰ z ys → t z ≡ true → le x z ≡ true
+      after f q z (inl r) u = absurd (true≢false (sym u ∙ ap t r ∙ q))
+      after f q z (inr r) u = f .first z r u
 
-        here : y ≡ x → (z : A) → (z ≡ y) ⊎ List·Memᴰ z ys → le x z ≡ true
-        here q z (inl r) = ap (λ (w : A). le w z) (sym q) ∙ ap (le y) r ∙ reflexive le total y
-        here q z (inr r) = ap (λ (w : A). le w z) (sym q) ∙ above-each y ys (o .0) z r
+      here : y ≡ x → (z : A) → (z ≡ y) ⊎ List·Memᴰ z ys → le x z ≡ true
+      here q z (inl r) = ap (λ (w : A). le w z) (sym q) ∙ ap (le y) r ∙ reflexive le total y
+      here q z (inr r) = ap (λ (w : A). le w z) (sym q) ∙ above-each y ys (o .0) z r
 
-        go : (b : Bool) → t y ≡ b → (firstThat t ys ≡ some x → FirstIn ys x) → cond b (some y) (firstThat t ys) ≡ some x → FirstIn (y ∷ ys) x
-        go true q ih e =
-            let r : y ≡ x = Option·some-injective y x e in
-            record { listed = List·Memᴰ·head (sym r); passes = ap t (sym r) ∙ q; first = λ z m u. here r z (List·Memᴰ·cases-cons m) }
-        go false q ih e =
-            let f = ih e in
-            record { listed = List·Memᴰ·tail (f .listed); passes = f .passes; first = λ z m u. after f q z (List·Memᴰ·cases-cons m) u }
+      go : (b : Bool) → t y ≡ b → (firstThat t ys ≡ some x → FirstIn ys x) → cond b (some y) (firstThat t ys) ≡ some x → FirstIn (y ∷ ys) x
+      go true q ih e =
+          let r : y ≡ x = Option·some-injective y x e in
+          record { listed = List·Memᴰ·head (sym r); passes = ap t (sym r) ∙ q; first = λ z m u. here r z (List·Memᴰ·cases-cons m) }
+      go false q ih e =
+          let f = ih e in
+          record { listed = List·Memᴰ·tail (f .listed); passes = f .passes; first = λ z m u. after f q z (List·Memᴰ·cases-cons m) u }
 
-    none-passes : (l : List A) → firstThat t l ≡ none → (y : A) → List·Memᴰ y l → t y ≡ false
-    none-passes [] e y m = absurd (List·Memᴰ·not-nil m)
-    none-passes (x ∷ xs) e y m = go (t x) refl (λ q. none-passes xs q y) e (List·Memᴰ·cases-cons m)
-      where
-        go : (b : Bool) → t x ≡ b → (firstThat t xs ≡ none → List·Memᴰ y xs → t y ≡ false) → cond b (some x) (firstThat t xs) ≡ none → (y ≡ x) ⊎ List·Memᴰ y xs → t y ≡ false
-        go true q ih e h = absurd (Option·some-ne-none x e)
-        go false q ih e (inl r) = ap t r ∙ q
-        go false q ih e (inr r) = ih e r
+  none-passes : (l : List A) → firstThat t l ≡ none → (y : A) → List·Memᴰ y l → t y ≡ false
+  none-passes [] e y m = absurd (List·Memᴰ·not-nil m)
+  none-passes (x ∷ xs) e y m = go (t x) refl (λ q. none-passes xs q y) e (List·Memᴰ·cases-cons m)
+    where
+      go : (b : Bool) → t x ≡ b → (firstThat t xs ≡ none → List·Memᴰ y xs → t y ≡ false) → cond b (some x) (firstThat t xs) ≡ none → (y ≡ x) ⊎ List·Memᴰ y xs → t y ≡ false
+      go true q ih e h = absurd (Option·some-ne-none x e)
+      go false q ih e (inl r) = ap t r ∙ q
+      go false q ih e (inr r) = ih e r
 
-    none-found : (l : List A) → ((y : A) → List·Memᴰ y l → t y ≡ false) → firstThat t l ≡ none
-    none-found [] h = refl
-    none-found (x ∷ xs) h = rw (h x (List·Memᴰ·head refl)) (none-found xs (λ y m. h y (List·Memᴰ·tail m)))
+  none-found : (l : List A) → ((y : A) → List·Memᴰ y l → t y ≡ false) → firstThat t l ≡ none
+  none-found [] h = refl
+  none-found (x ∷ xs) h = rw (h x (List·Memᴰ·head refl)) (none-found xs (λ y m. h y (List·Memᴰ·tail m)))
 
-    -- none is found exactly if no element passes
-    pub none-means : (xs : List A) → (firstThat t (sortedBy le xs) ≡ none) ↔ ((y : A) → List·Memᴰ y xs → t y ≡ false)
-    none-means xs = (
-      λ e y m. none-passes (sortedBy le xs) e y (sorted-listed le y xs .1 m),
-      λ h. none-found (sortedBy le xs) (λ y m. h y (sorted-listed le y xs .0 m)),
-    )
+  -- none is found exactly if no element passes
+  pub none-means : (xs : List A) → (firstThat t (sortedBy le xs) ≡ none) ↔ ((y : A) → List·Memᴰ y xs → t y ≡ false)
+  none-means xs = (
+    λ e y m. none-passes (sortedBy le xs) e y (sorted-listed le y xs .1 m),
+    λ h. none-found (sortedBy le xs) (λ y m. h y (sorted-listed le y xs .0 m)),
+  )
 
-    found-first : (xs : List A) (x : A) → firstThat t (sortedBy le xs) ≡ some x → FirstIn xs x
-    found-first xs x e =
-        let f = ordered-first (sortedBy le xs) x (sorted-ordered le total trans xs) e in
-        record { listed = sorted-listed le x xs .0 (f .listed); passes = f .passes; first = λ y m. f .first y (sorted-listed le y xs .1 m) }
+  found-first : (xs : List A) (x : A) → firstThat t (sortedBy le xs) ≡ some x → FirstIn xs x
+  found-first xs x e =
+      let f = ordered-first (sortedBy le xs) x (sorted-ordered le total trans xs) e in
+      record { listed = sorted-listed le x xs .0 (f .listed); passes = f .passes; first = λ y m. f .first y (sorted-listed le y xs .1 m) }
 
-    first-found : (xs : List A) (x : A) → AllOf F xs → FirstIn xs x → firstThat t (sortedBy le xs) ≡ some x
-    first-found xs x a f = go (firstThat t (sortedBy le xs)) refl
-      where
-        go : (r : Option A) → firstThat t (sortedBy le xs) ≡ r → firstThat t (sortedBy le xs) ≡ some x
-        go none e = absurd (true≢false (sym (f .passes) ∙ none-means xs .0 e x (f .listed)))
-        go (some y) e =
-            let g = found-first xs y e in
-            e ∙ ap some (antisym y x (all-of-listed F xs a y (g .listed)) (all-of-listed F xs a x (f .listed)) (g .first x (f .listed) (f .passes)) (f .first y (g .listed) (g .passes)))
+  first-found : (xs : List A) (x : A) → AllOf F xs → FirstIn xs x → firstThat t (sortedBy le xs) ≡ some x
+  first-found xs x a f = go (firstThat t (sortedBy le xs)) refl
+    where
+      go : (r : Option A) → firstThat t (sortedBy le xs) ≡ r → firstThat t (sortedBy le xs) ≡ some x
+      go none e = absurd (true≢false (sym (f .passes) ∙ none-means xs .0 e x (f .listed)))
+      go (some y) e =
+          let g = found-first xs y e in
+          e ∙ ap some (antisym y x (all-of-listed F xs a y (g .listed)) (all-of-listed F xs a x (f .listed)) (g .first x (f .listed) (f .passes)) (f .first y (g .listed) (g .passes)))
 
-    -- x is found exactly if it is the first
-    pub first-means : (xs : List A) (x : A) → AllOf F xs → (firstThat t (sortedBy le xs) ≡ some x) ↔ FirstIn xs x
-    first-means xs x a = (found-first xs x, first-found xs x a)
+  -- x is found exactly if it is the first
+  pub first-means : (xs : List A) (x : A) → AllOf F xs → (firstThat t (sortedBy le xs) ≡ some x) ↔ FirstIn xs x
+  first-means xs x a = (found-first xs x, first-found xs x a)
 
 -- ---- the first of the numbers 0 to k with the least value
 module _ {A : Type 0} (le : A → A → Bool) (f : ℕ → A) where

@@ -29,7 +29,7 @@ peers-fit-spec =
     let l = g .before .before in
     let a = l .before .before .args in
     overfull-found (a .own .0) (inFlight (a .inflight .now)) (a .n) (l .loop .p) _ (g .before .loop-test .taken)
-    (o .is-overfull .ensures ∙ ap (isOverfull (a .own .0) (l .loop .p)) (g .in-flight .ensures)) (c .if1 .taken))
+    (o .is-overfull .ensures ∙ ap (isOverfull (a .own .0) (l .loop .p)) (g .word-at .ensures)) (c .if1 .taken))
     (λ c. search needs)
     (λ c. search needs)
     (λ c.
@@ -39,6 +39,6 @@ peers-fit-spec =
     let a = l .before .before .args in (
       search needs,
       none-more (a .own .0) (inFlight (a .inflight .now)) (a .n) (l .loop .p) _ (l .loop .inv .1)
-          (o .is-overfull .ensures ∙ ap (isOverfull (a .own .0) (l .loop .p)) (g .in-flight .ensures)) (c .if1 .left),
+          (o .is-overfull .ensures ∙ ap (isOverfull (a .own .0) (l .loop .p)) (g .word-at .ensures)) (c .if1 .left),
     ))
     (λ c. search all-fit))
