@@ -1,6 +1,7 @@
 // The structs that cross the C interface, and the values of the entries that they stand for. A flag is a number: 0 is false, anything else
 // true.
 ghost use mathlib.Core.Path.{_≡_};
+ghost use mathlib.Core.Bool.{cond};
 ghost use mathlib.Core.List.{[]};
 ghost use Prim.Native.Nat.{_<_};
 ghost use Rattle.refusals.specs.Outcome.{refused, accepted};
@@ -422,10 +423,17 @@ fn to_tally(t: tally::Tally, committed: u64) -> Tally
 pub fn tally_left(t: Tally, u: tally::Tally) -> Tally
     ensures { λ r. ⌜ r ≡ tallyLeft t u ⌝ }
 {
-    if is_set(t.committed) {
-        return to_tally(u, t.committed);
+    to_tally(u, flag_left(t.committed, u.committed))
+}
+
+// A flag that was set stays the number that it was.
+fn flag_left(before: u64, committed: bool) -> u64
+    ensures { λ r. ⌜ r ≡ cond (isSet before) before (wordOf committed) ⌝ }
+{
+    if is_set(before) {
+        return before;
     }
-    to_tally(u, word_of(u.committed))
+    word_of(committed)
 }
 
 pub fn opening(o: tally::Opening) -> TallyOpening

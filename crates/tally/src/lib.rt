@@ -199,8 +199,7 @@ fn fresh(n: usize, quorum: usize, d: usize, w: usize, ballot: u64, high: u64, lo
 }
 
 // The number that refuses a reply, or 0. The tally is tested like the opening's values, and its words too: it may come from anywhere. A
-// part:
-// its 16 rows are lent apart, so that the test copies none.
+// part: its 16 rows are lent apart, so that the test copies none.
 fn reply_refusal(
     t: Tally,
     rows: &[u64],

@@ -1,7 +1,8 @@
 -- `c_types::tally_left` meets its contract. Assumes nothing.
-use mathlib.Core.Path.{sym, _∙_}
+use mathlib.Core.Path.{ap, _∙_}
+use Prim.Native.Nat.{ℕ}
 use borrow.Author.Needs.{needs}
-use Rattle.c_types.specs.CTypes.{tallyLeft}
+use Rattle.c_types.specs.CTypes.{toTally, tallyLeft}
 use Rattle.c_types.proofs.tally_left.Statement.{statement}
 use Rattle.c_types.proofs.tally_left.Tie as tie
 
@@ -12,7 +13,4 @@ tally-left-spec =
     (tie.spec
     (λ c κs. search needs)
     (λ c κs. search needs)
-    (λ c. let i = c .before in c .to-tally .ensures ∙ rw (sym (i .before .is-set .ensures) ∙ i .if1 .taken))
-    (λ c κs. search needs)
-    (λ c κs. search needs)
-    (λ c. let i = c .before .before in c .to-tally2 .ensures ∙ rw (sym (i .before .is-set .ensures) ∙ i .if1 .left, c .before .word-of .ensures)))
+    (λ c. c .to-tally .ensures ∙ ap (λ (k : ℕ). toTally (c .before .before .args .u) k) (c .before .flag-left .ensures)))
