@@ -1,8 +1,7 @@
 -- `c_types::tally_left` meets its contract. Assumes nothing.
-use mathlib.Core.Path.{ap, _∙_}
-use Prim.Native.Nat.{ℕ}
+use mathlib.Core.Path.{_∙_}
 use borrow.Author.Needs.{needs}
-use Rattle.c_types.specs.CTypes.{toTally, tallyLeft}
+use Rattle.c_types.specs.CTypes.{tallyLeft}
 use Rattle.c_types.proofs.tally_left.Statement.{statement}
 use Rattle.c_types.proofs.tally_left.Tie as tie
 
@@ -13,4 +12,4 @@ tally-left-spec =
     (tie.spec
     (λ c κs. search needs)
     (λ c κs. search needs)
-    (λ c. c .to-tally .ensures ∙ ap (λ (k : ℕ). toTally (c .before .before .args .u) k) (c .before .flag-left .ensures)))
+    (λ c. c .to-tally .ensures ∙ rw (c .before .flag-left .ensures)))
