@@ -1,5 +1,7 @@
 // The balanced policy: the fewest shards a replica may hold under the peers now alive (min_shards_per_replica), and the assignment that the
 // models favour (pick_assignment_policy), as a choice and as the rows that it stands for.
+#![tactic(auto)]
+
 ghost use Rattle.std.specs.Prelude.{◌≡◌, ◌+◌, ◌*◌, ◌%◌, ◌≤◌, ◌<◌, ◌^◌, max, length, take, drop};
 ghost use Rattle.rows.specs.Row.{rows_in, spelled};
 ghost use Rattle.refusals.specs.Limits.{most_shards, peers_fit};
@@ -11,14 +13,14 @@ ghost use Rattle.adaptive.specs.Policy.{is_balanced_table, has_count, best_shard
 use bitmap::ReplicaId;
 
 // The fewest shards a replica.
-#[derive(Drop)]
+#[derive(Clone, Copy)]
 pub enum Floor {
     Refused(u8),
     Shards(usize),
 }
 
 // The initial layout, or the rows of so many shards a replica of the balanced table.
-#[derive(Drop)]
+#[derive(Clone, Copy)]
 pub enum Policy {
     Refused(u8),
     Initial,

@@ -1,5 +1,7 @@
 // Replays the stored answers of the Rust: a file for each entry. Prints how many lines were answered as they say, or the first that was
 // not.
+#![tactic(auto)]
+
 mod replay; // replay.rt: whether an entry answers a line as it says
 
 fn main() {
@@ -21,7 +23,7 @@ fn main() {
 }
 
 // What became of some lines, and whether more may follow.
-#[derive(Drop)]
+#[derive(Clone, Copy)]
 struct Progress {
     count: u64,
     differs: bool,

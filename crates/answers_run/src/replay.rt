@@ -46,7 +46,7 @@ const MOST_NUMBERS: usize = 512;
 const MOST_ELEMENTS: usize = 512;
 
 // How many lines were replayed, and whether the last of them differs.
-#[derive(Drop)]
+#[derive(Clone, Copy)]
 pub struct Report {
     pub count: u64,
     pub differs: bool,
@@ -429,14 +429,14 @@ fn is_gossip(w: &[u64], exclusions: &mut [u64]) -> bool {
 // ---- tallies: a whole list of replies, each with the tally that it leaves
 
 // What the C function returns, and the tally that it leaves.
-#[derive(Drop)]
+#[derive(Clone, Copy)]
 struct Accepted {
     reply: Reply,
     tally: Tally,
 }
 
 // Whether a reply is answered as it says, the tally that it leaves, and where the next one stands.
-#[derive(Drop)]
+#[derive(Clone, Copy)]
 struct Turn {
     right: bool,
     tally: Tally,

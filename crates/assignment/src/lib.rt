@@ -1,4 +1,6 @@
 // Plans: the assignment predicted to commit the soonest (pick_assignment), and full copies where there is none.
+#![tactic(auto)]
+
 ghost use Rattle.std.specs.Prelude.{◌≡◌, suc, ◌+◌, ◌*◌, ◌<◌, ◌≤◌, length};
 ghost use Rattle.std.proofs.Math.Option.{some};
 ghost use Rattle.refusals.specs.Limits.{peers_fit};
@@ -22,7 +24,7 @@ const NARROW_TIMES: usize = 1040;
 const MOST_TIMES: usize = 4096;
 
 // No plan is an answer of its own. A plan's rows are in the lent table.
-#[derive(Drop)]
+#[derive(Clone, Copy)]
 pub enum Pick {
     Refused(u8),
     NoPlan,

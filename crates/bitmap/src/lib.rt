@@ -1,10 +1,12 @@
 // Sets of replicas as masks of 64 bits: bit s is the replica s. A word of a row of shards is such a mask too.
+#![tactic(auto)]
+
 ghost use Rattle.std.specs.Prelude.{◌≡◌, ◌+◌, ◌<◌, ◌≤◌, length, get_or, take, replicate};
 ghost use Rattle.std.specs.Int.Bits.{bit_or};
 ghost use Rattle.bitmap.specs.Mask.{has_bit, with_bit, is_below, count, run, run_modulo};
 
 // The number of a replica. It is wide, so that a number out of range is refused and not cut.
-#[derive(Drop)]
+#[derive(Clone, Copy)]
 pub struct ReplicaId(pub usize);
 
 // Whether the replica s is in the mask.

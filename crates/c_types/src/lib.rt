@@ -1,5 +1,7 @@
 // The structs that cross the C interface, and the values of the entries that they stand for. A flag is a number: 0 is false, anything else
 // true.
+#![tactic(auto)]
+
 ghost use Rattle.std.specs.Prelude.{◌≡◌, cond, [], ◌<◌};
 ghost use Rattle.refusals.specs.Outcome.{refused, accepted};
 ghost use Rattle.profiles.specs.Unreliability.{answer as estimate};
@@ -29,21 +31,21 @@ use times::{Peer, PeerRecord};
 
 // The number that refuses, or 0; beside a number every other field is 0. So in each struct that answers.
 #[repr(C)]
-#[derive(Drop)]
+#[derive(Clone, Copy)]
 pub struct Answer {
     pub refusal: u64,
     pub value: u64,
 }
 
 #[repr(C)]
-#[derive(Drop)]
+#[derive(Clone, Copy)]
 pub struct FloatAnswer {
     pub refusal: u64,
     pub value: f64,
 }
 
 #[repr(C)]
-#[derive(Drop)]
+#[derive(Clone, Copy)]
 pub struct Layout {
     pub refusal: u64,
     pub width: usize,
@@ -51,7 +53,7 @@ pub struct Layout {
 }
 
 #[repr(C)]
-#[derive(Drop)]
+#[derive(Clone, Copy)]
 pub struct Plan {
     pub refusal: u64,
     pub found: u64,
@@ -60,7 +62,7 @@ pub struct Plan {
 }
 
 #[repr(C)]
-#[derive(Drop)]
+#[derive(Clone, Copy)]
 pub struct Choice {
     pub refusal: u64,
     pub from_table: u64,
@@ -68,7 +70,7 @@ pub struct Choice {
 }
 
 #[repr(C)]
-#[derive(Drop)]
+#[derive(Clone, Copy)]
 pub struct Profile {
     pub domain_count: usize,
     pub prob_count: usize,
@@ -79,14 +81,14 @@ pub struct Profile {
 }
 
 #[repr(C)]
-#[derive(Drop)]
+#[derive(Clone, Copy)]
 pub struct ProfileReading {
     pub refusal: u64,
     pub profile: Profile,
 }
 
 #[repr(C)]
-#[derive(Drop)]
+#[derive(Clone, Copy)]
 pub struct Tally {
     pub population: usize,
     pub quorum: usize,
@@ -101,7 +103,7 @@ pub struct Tally {
 }
 
 #[repr(C)]
-#[derive(Drop)]
+#[derive(Clone, Copy)]
 pub struct TallyOpening {
     pub refusal: u64,
     pub tally: Tally,
@@ -109,7 +111,7 @@ pub struct TallyOpening {
 
 // The status is 0 for waiting, 1 for committed and 2 for already committed.
 #[repr(C)]
-#[derive(Drop)]
+#[derive(Clone, Copy)]
 pub struct Reply {
     pub refusal: u64,
     pub status: u64,

@@ -1,6 +1,8 @@
 // The C interface (include/callboard.h): an exported function for each entry, which takes its parameters apart, calls the entry and
 // flattens the answer. Every number is 64 bits wide; a slice is a pointer and a length. Beside a refusal every other field is 0, and
 // nothing is written.
+#![tactic(auto)]
+
 ghost use Rattle.std.specs.Prelude.{◌≡◌, true, length};
 ghost use Rattle.profiles.specs.Unreliability.{unreliability_of};
 ghost use Rattle.profile_text.specs.ProfileText.{profile_of, parsed};
@@ -28,7 +30,7 @@ use c_types::{
 use rows::Row;
 
 // The answer, and the tally as the reply leaves it.
-#[derive(Drop)]
+#[derive(Clone, Copy)]
 struct Replied {
     reply: Reply,
     tally: Tally,

@@ -1,4 +1,6 @@
 // The search for the first candidate time at which a layout commits, and the loads of a time.
+#![tactic(auto)]
+
 ghost use Rattle.std.specs.Prelude.{◌≡◌, cond, ◌&&◌, ℕ, suc, ◌+◌, ◌*◌, ◌<◌, ◌≤◌, length, get_or};
 ghost use Rattle.std.specs.Float.Ieee.{le};
 ghost use Rattle.lists.specs.Below.{run_of};

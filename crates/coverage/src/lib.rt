@@ -1,4 +1,6 @@
 // The commit rule and the discard rule: whether the shards that heard replicas hold survive every listed failure.
+#![tactic(auto)]
+
 ghost use Rattle.std.specs.Prelude.{◌≡◌, ◌+◌, ◌*◌, ◌≤◌, ◌<◌, length};
 ghost use Rattle.lists.specs.All.{all, any};
 ghost use Rattle.rows.specs.Row.{row_of, row_in, low_in};
@@ -7,14 +9,14 @@ ghost use Rattle.coverage.specs.Coverage.{flag_of, share_of, union_of, leaves, R
 use bitmap::ReplicaId;
 use rows::Row;
 
-#[derive(Drop)]
+#[derive(Clone, Copy)]
 pub enum Coverage {
     Refused(u8),
     Covered,
     Uncovered,
 }
 
-#[derive(Drop)]
+#[derive(Clone, Copy)]
 pub enum Survival {
     Refused(u8),
     Survived,

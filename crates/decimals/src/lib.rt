@@ -1,4 +1,6 @@
 // Decimals: a double from digits, a point and an exponent.
+#![tactic(auto)]
+
 ghost use Rattle.std.specs.Prelude.{◌≡◌, true, false, cond, ◌&&◌, [], ◌+◌, ◌*◌, ◌^◌, ◌≤◌, ◌<◌, leb, length};
 ghost use Rattle.std.specs.Float.{binary64};
 ghost use Rattle.std.specs.Float.Ieee.{round};
@@ -9,14 +11,14 @@ ghost use Rattle.numerals.specs.Whole.{is_digit, spelt};
 ghost use Rattle.decimals.specs.Decimal.{is_negative, is_sign, unsigned, is_e, is_well_formed, read_of, decimal_of, decimal};
 
 // A double, or the number of the decimal's fault.
-#[derive(Drop)]
+#[derive(Clone, Copy)]
 pub enum Decimal {
     Refused(u8),
     Value(f64),
 }
 
 // Whether bytes are digits, and what they then spell.
-#[derive(Drop)]
+#[derive(Clone, Copy)]
 struct Digits {
     ok: bool,
     value: u64,

@@ -1,4 +1,6 @@
 // The fault list: the maximal sets of replicas whose failure a committed value must survive (crash_sets, Tolerance::new).
+#![tactic(auto)]
+
 ghost use Rattle.std.specs.Prelude.{◌≡◌, true, ◌*◌, ◌^◌, ◌<◌, ◌≤◌, length};
 ghost use Rattle.lists.specs.All.{all};
 ghost use Rattle.refusals.specs.First.{first_of};
@@ -12,7 +14,7 @@ ghost use Rattle.faults.specs.FaultList.{Accepted, input_cases, answer, list_ans
 
 use profiles::Profile;
 
-#[derive(Drop)]
+#[derive(Clone, Copy)]
 pub enum Listed {
     Refused(u8),
     Count(usize),

@@ -1,4 +1,6 @@
 // Gossip: which peers a replica asks for its missing shards, and which shards it tells each to leave out (gossip_targets_excl).
+#![tactic(auto)]
+
 ghost use Rattle.std.specs.Prelude.{◌≡◌, ◌+◌, ◌*◌, ◌≤◌, ◌<◌, length};
 ghost use mathlib.Core.List.{foldl};
 ghost use Rattle.rows.specs.Row.{row_of, row_in, rows_in};
@@ -8,14 +10,14 @@ use bitmap::ReplicaId;
 use rows::Row;
 
 // The peers to ask, as a mask. What each of them is to leave out is in the lent table, four words a row.
-#[derive(Drop)]
+#[derive(Clone, Copy)]
 pub enum Gossip {
     Refused(u8),
     Asked(u64),
 }
 
 // How far the walk has come: those asked, the shards that one will have, and whether the walk is over.
-#[derive(Drop)]
+#[derive(Clone, Copy)]
 struct Progress {
     asked: u64,
     available: Row,

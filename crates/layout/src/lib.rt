@@ -1,4 +1,6 @@
 // Layouts: the rows that given loads come to, and whether replies from those that answer commit (layout_rows, layout_commits).
+#![tactic(auto)]
+
 ghost use Rattle.std.specs.Prelude.{◌≡◌, cond, ◌*◌, ◌<◌, ◌≤◌, min, max, length};
 ghost use Rattle.lists.specs.Below.{each_below, front};
 ghost use Rattle.bitmap.specs.Mask.{has_bit};
@@ -10,21 +12,21 @@ use bitmap::ReplicaId;
 use rows::{Row, ShardId};
 
 // The number of shards to lay rows out in: exactly that of an existing code scheme, or at most a bound for a new one.
-#[derive(Drop)]
+#[derive(Clone, Copy)]
 pub enum TotalShards {
     Exactly(usize),
     AtMost(usize),
 }
 
 // The width of a layout whose rows are in the lent table.
-#[derive(Drop)]
+#[derive(Clone, Copy)]
 pub enum Laid {
     Refused(u8),
     Width(usize),
 }
 
 // The same, and whether it commits.
-#[derive(Drop)]
+#[derive(Clone, Copy)]
 pub enum Tested {
     Refused(u8),
     Layout { width: usize, commits: bool },

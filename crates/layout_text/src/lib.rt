@@ -1,4 +1,6 @@
 // The layout text of the initial assignment (parse_init_assignment): runs of shards, or segments that name each replica's shards.
+#![tactic(auto)]
+
 ghost use Rattle.std.specs.Prelude.{◌≡◌, false, ◌+◌, ◌*◌, ◌^◌, ◌<◌, ◌≤◌, length};
 ghost use Rattle.std.specs.Int.Bits.{bit_or};
 ghost use Rattle.bitmap.specs.Mask.{run_modulo};
@@ -19,14 +21,14 @@ use rows::{Row, ShardId};
 const MOST_BYTES: usize = 16384;
 
 // The number that refuses, or the rows, which are in the lent table.
-#[derive(Drop)]
+#[derive(Clone, Copy)]
 pub enum Init {
     Refused(u8),
     Rows,
 }
 
 // A segment: a replica and its shards, or the number of the first fault.
-#[derive(Drop)]
+#[derive(Clone, Copy)]
 enum Segment {
     Refused(u8),
     Row(ReplicaId, Row),

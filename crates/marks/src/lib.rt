@@ -1,4 +1,6 @@
 // A family of sets of n replicas as a table of 2^n bits: the set with the mask m is bit m % 64 of the word m / 64.
+#![tactic(auto)]
+
 ghost use Rattle.std.specs.Prelude.{◌≡◌, ◌*◌, ◌^◌, ◌<◌, ◌≤◌, length};
 ghost use Rattle.lists.specs.Below.{those_below, front};
 ghost use Rattle.marks.specs.Marks.{flagged, with_flag};

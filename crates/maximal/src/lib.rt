@@ -1,5 +1,7 @@
 // The maximal members of a family of sets of n replicas, which a table of 2^n bits holds, a bit a mask. It is worked on in place and by
 // words, in one pass for each replica and one more.
+#![tactic(auto)]
+
 ghost use Rattle.std.specs.Prelude.{◌≡◌, ◌/◌, ◌^◌, ◌<◌, ◌≤◌, length};
 ghost use Rattle.std.specs.Int.Bits.{bit_and};
 ghost use Rattle.bitmap.specs.Mask.{mask_below};

@@ -1,4 +1,6 @@
 // Texts: the scanning that all of them share, and whole numbers.
+#![tactic(auto)]
+
 ghost use Rattle.std.specs.Prelude.{◌≡◌, ◌+◌, ◌≤◌, length, take, drop};
 ghost use Rattle.lists.specs.All.{all};
 ghost use Rattle.numerals.specs.Text.{is_text, is_ascii, is_same, is_blank, trim_start, trim_end, trim, cut, has_byte};
@@ -8,21 +10,21 @@ ghost use Rattle.numerals.specs.Whole.{is_digit, is_digits, unplussed, whole_of,
 use rows::{Row, ShardId};
 
 // A whole number, or the number of its fault.
-#[derive(Drop)]
+#[derive(Clone, Copy)]
 pub enum Whole {
     Refused(u8),
     Value(usize),
 }
 
 // The mask of a list of replicas, or the number of its first fault.
-#[derive(Drop)]
+#[derive(Clone, Copy)]
 pub enum Members {
     Refused(u8),
     Mask(u64),
 }
 
 // The row of a list of shards, or the number of its first fault.
-#[derive(Drop)]
+#[derive(Clone, Copy)]
 pub enum Shards {
     Refused(u8),
     Row(Row),

@@ -1,6 +1,8 @@
 // Plans for the site that standard input describes (crates/site has the form of a description): prints the sets of replicas whose failure
 // must be survived, then the plan, or none and the full copies, or what is wrong and at which line. Given the names of files, it plans for
 // each of them in turn; `-` is standard input.
+#![tactic(auto)]
+
 mod plan;
 mod print;
 

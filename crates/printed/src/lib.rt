@@ -1,4 +1,6 @@
 // What the programs print, on standard output, of the library's values.
+#![tactic(auto)]
+
 use rows::{Row, ShardId};
 
 // A number, after its name.

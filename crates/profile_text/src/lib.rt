@@ -1,4 +1,6 @@
 // The text of a reliability profile (ReliabilityProfile::parse).
+#![tactic(auto)]
+
 ghost use Rattle.std.specs.Prelude.{◌≡◌, ◌||◌, ◌≤◌};
 ghost use Rattle.refusals.specs.Outcome.{refused, accepted};
 ghost use Rattle.numerals.specs.Text.{is_empty, is_same, trim, before, behind};
@@ -12,21 +14,21 @@ use profiles::Profile;
 // The most bytes that a profile's text has.
 const MOST_BYTES: usize = 4096;
 
-#[derive(Drop)]
+#[derive(Clone, Copy)]
 pub enum Reading {
     Refused(u8),
     Read,
 }
 
 // The number that refuses, beside a profile of nothing; or the profile.
-#[derive(Drop)]
+#[derive(Clone, Copy)]
 pub struct Parsed {
     pub answer: Reading,
     pub profile: Profile,
 }
 
 // A list of decimals: how many, and the first 16 of them.
-#[derive(Drop)]
+#[derive(Clone, Copy)]
 struct Decimals {
     answer: Reading,
     count: usize,

@@ -1,4 +1,6 @@
 // ReliabilityProfile: what is known of how the replicas fail, its check, and the unreliability of a peer.
+#![tactic(auto)]
+
 ghost use Rattle.std.specs.Prelude.{◌≡◌, ◌<◌, ◌≤◌};
 ghost use Rattle.lists.specs.All.{all};
 ghost use Rattle.refusals.specs.First.{first_of};
@@ -9,7 +11,7 @@ ghost use Rattle.profiles.specs.Unreliability.{given, chance_of, unreliability_r
 use bitmap::ReplicaId;
 
 // A parsed profile. A domain is a mask of replicas; with prob_count 0 there are no probabilities.
-#[derive(Drop)]
+#[derive(Clone, Copy)]
 pub struct Profile {
     pub domain_count: usize,
     pub prob_count: usize,
@@ -19,7 +21,7 @@ pub struct Profile {
     pub domains: [u64; 64],
 }
 
-#[derive(Drop)]
+#[derive(Clone, Copy)]
 pub enum Estimate {
     Refused(u8),
     Value(f64),

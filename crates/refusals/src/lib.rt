@@ -1,4 +1,6 @@
 // The numbers that refuse, by name, and the range checks that several entries share.
+#![tactic(auto)]
+
 ghost use Rattle.std.specs.Prelude.{◌≡◌, ◌≤◌};
 ghost use Rattle.lists.specs.All.{all};
 ghost use Rattle.bitmap.specs.Mask.{is_below};

@@ -1,1 +1,3 @@
 // What rounding to a float format means. Laws alone: no code.
+#![tactic(auto)]
+

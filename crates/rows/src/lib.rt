@@ -1,4 +1,6 @@
 // Rows of shards as four words of 64 bits, the lowest shards first, and lent tables of them, four words a row.
+#![tactic(auto)]
+
 ghost use Rattle.std.specs.Prelude.{◌≡◌, ◌+◌, ◌-◌, ◌*◌, ◌/◌, ◌<◌, ◌≤◌, min, length, get_or, eqb, cond};
 ghost use Rattle.std.specs.Int.Bits.{bit_or};
 ghost use Rattle.lists.specs.All.{all};
@@ -8,13 +10,13 @@ ghost use Rattle.rows.specs.Row.{words, row_of, row_in, last_in, rows_in, unite_
 ghost use Rattle.rows.specs.WordLaws.{span};
 
 // The number of a shard.
-#[derive(Drop)]
+#[derive(Clone, Copy)]
 pub struct ShardId(pub usize);
 
 // The shards that a replica holds, or those that a reply names: shard s is bit s % 64 of the word s / 64. Four fields and no array, so that
 // an enum can hold a row.
 #[repr(C)]
-#[derive(Drop)]
+#[derive(Clone, Copy)]
 pub struct Row {
     pub w0: u64,
     pub w1: u64,

@@ -1,4 +1,6 @@
 // Runs the site sheet's lines on texts and on the bounds: a line for each, with the number that refuses or what was read.
+#![tactic(auto)]
+
 use layout::{Laid, TotalShards};
 use layout_text::Init;
 use profile_text::Reading;

@@ -9,27 +9,29 @@
 //
 // N is a whole number, X a decimal; the names after a peer's number stand in any order. What is read here is in no contract: the entries
 // check it for themselves.
+#![tactic(auto)]
+
 ghost use Rattle.std.specs.Prelude.{◌≤◌, length};
 
 use decimals::Decimal;
 use layout::TotalShards;
 
 // A line of a description: where it begins, and its number from 1. No line has the number 0.
-#[derive(Drop)]
+#[derive(Clone, Copy)]
 pub struct Place {
     pub at: usize,
     pub number: u64,
 }
 
 // A whole number, or what is none.
-#[derive(Drop)]
+#[derive(Clone, Copy)]
 pub enum Whole {
     Malformed,
     Value(u64),
 }
 
 // A width, or what is none.
-#[derive(Drop)]
+#[derive(Clone, Copy)]
 pub enum Width {
     Malformed,
     Total(TotalShards),

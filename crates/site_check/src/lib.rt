@@ -1,5 +1,7 @@
 // What is wrong with a description of a site, said on standard output: the first line that is none, the keys that are missing, or the
 // number that refuses and the line it concerns. Each function that answers whether all is well has said what is not.
+#![tactic(auto)]
+
 use site::{Place, Width};
 
 // ---- the lines, from the first on

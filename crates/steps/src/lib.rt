@@ -1,5 +1,7 @@
 // The steps of an adaptive choice: each has more shards a replica, waits for fewer replicas, and takes a time that the peers' models
 // predict.
+#![tactic(auto)]
+
 ghost use Rattle.std.specs.Prelude.{◌≡◌, ◌+◌, ◌*◌, ◌%◌, ◌≤◌, ◌<◌, ◌^◌, length, get_or};
 ghost use Rattle.refusals.specs.LimitLaws.{InFlight};
 ghost use Rattle.refusals.specs.Limits.{most_shards};

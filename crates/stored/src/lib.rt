@@ -1,6 +1,8 @@
 // A line of the stored answers: its numbers, the values that they stand for, and whether an answer is the one that they say.
 // differential/src/bin/stored.rs has the format: a slice is its length and then its elements; a float is its bits. What a line lacks is 0,
 // or empty.
+#![tactic(auto)]
+
 ghost use Rattle.std.specs.Prelude.{◌≡◌};
 ghost use Rattle.std.specs.Float.{binary64};
 ghost use Rattle.std.specs.Float.Ieee.{nan_bits};

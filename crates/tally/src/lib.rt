@@ -1,5 +1,7 @@
 // The tally of accept replies for one value at one ballot (handle_msg_accept_reply, after the value id test): the opening, and what a reply
 // does to it.
+#![tactic(auto)]
+
 ghost use Rattle.std.specs.Prelude.{◌≡◌, ◌+◌, ◌*◌, ◌≤◌, length, take, cond};
 ghost use Rattle.refusals.specs.Limits.{are_rows};
 ghost use Rattle.rows.specs.Row.{row_of, row_in, with_row};
@@ -10,7 +12,7 @@ use bitmap::ReplicaId;
 use rows::Row;
 
 // Who has replied, and the shards that each has named. The row of a replica not heard has no meaning.
-#[derive(Drop)]
+#[derive(Clone, Copy)]
 pub struct Tally {
     pub population: usize,
     pub quorum: usize,
@@ -25,13 +27,13 @@ pub struct Tally {
 }
 
 // The number that refuses, beside a tally of nothing; or 0, beside the tally.
-#[derive(Drop)]
+#[derive(Clone, Copy)]
 pub struct Opening {
     pub refusal: u8,
     pub tally: Tally,
 }
 
-#[derive(Drop)]
+#[derive(Clone, Copy)]
 pub enum Answer {
     Refused(u8),
     Waiting,
@@ -40,7 +42,7 @@ pub enum Answer {
 }
 
 // The answer, and the tally as the reply leaves it.
-#[derive(Drop)]
+#[derive(Clone, Copy)]
 pub struct Replied {
     pub answer: Answer,
     pub tally: Tally,

@@ -1,4 +1,6 @@
 // Predicted reply times: a performance model, a peer, and the times of a plan for every replica at every load.
+#![tactic(auto)]
+
 ghost use Rattle.std.specs.Prelude.{◌≡◌, suc, ◌*◌, ◌^◌, ◌<◌, ◌≤◌, false, length};
 ghost use Rattle.times.specs.Times.{most_times, InBounds, PeersInBounds, predict_of, settled, reply_time, time_at, shard_length, times_of, time_in};
 ghost use Rattle.refusals.specs.Limits.{most_shards};
@@ -6,7 +8,7 @@ ghost use Rattle.refusals.specs.Limits.{most_shards};
 use bitmap::ReplicaId;
 
 // The performance model of a peer: slope in ms a MiB, delay and jitter in ms.
-#[derive(Drop)]
+#[derive(Clone, Copy)]
 pub struct PerfModel {
     pub slope: f64,
     pub delay: f64,
@@ -14,7 +16,7 @@ pub struct PerfModel {
 }
 
 // A peer is silent, or heard with its model and its unreliability.
-#[derive(Drop)]
+#[derive(Clone, Copy)]
 pub enum Peer {
     Silent,
     Heard {
@@ -26,7 +28,7 @@ pub enum Peer {
 }
 
 // What a plan is told of a replica: the peer, and the bytes in flight to it.
-#[derive(Drop)]
+#[derive(Clone, Copy)]
 pub struct PeerRecord {
     pub peer: Peer,
     pub inflight: u64,
