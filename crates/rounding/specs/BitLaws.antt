@@ -5,7 +5,7 @@ use Prim.Native.Nat.{ℕ, suc, ◌+◌, ◌-◌, ◌*◌, ◌/◌, ◌%◌, ◌^
 use Rattle.std.proofs.Math.Nat.{mul-mod_left, div-div-eq-div-mul}
 use Rattle.std.proofs.Math.Pow.{pow-lt}
 use Rattle.std.specs.Float.{fin, Format, binary32, binary64}
-use Rattle.std.specs.Float.Ieee.{prec, low, down, size, fits, hid, top, to_bits, of_bits}
+use Rattle.std.specs.Float.Ieee.{inf, nan, prec, low, down, size, fits, hid, top, to_bits, of_bits}
 use Rattle.std.specs.Float.Ieee.Digits.{back, size-le}
 use Rattle.std.specs.Float.Ieee.Fits.{two, down_pos, nearest-le, kept-lt}
 use Rattle.std.specs.Float.Ieee.Bits.{of_bits-to_bits}
@@ -20,6 +20,8 @@ pattern f s a = cond s (top f) 0 + (size a - prec f) * hid f + a / 2 ^ (size a -
 pub bits_of : (f : Format) (x : Float) (s : Bool) (a : ℕ) → HasValue x s a (2 ^ low f) → to_bits f x ≡ pattern f s a
 unfolding to_bits
 bits_of f (fin t m e) s a v = ap₂ (pattern f) v.0 (ap (λ (x : ℕ). x / down e) v.1 ∙ mul-div_cancel a (down_pos e))
+bits_of f nan s a v = elim v [ ]
+bits_of f (inf _) s a v = elim v [ ]
 
 -- two floats that fit are the same if their signs and values are
 pub same_float : (f : Format) (x y : Float) (s : Bool) (a : ℕ) → T (fits f x) → T (fits f y)

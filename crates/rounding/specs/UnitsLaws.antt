@@ -32,6 +32,8 @@ pub gap_units : (s : Bool) (num den : ℕ) (t : Bool) (a l : ℕ) (x : Float) �
 gap_units s num den t a l (fin t' m e) v =
     subst (λ (z : Bool). between s (num * l) z (a * den) * down e ≡ gap s num den (fin t' m e) * l) v.0
     (gap_at num den (m * up e) (down e) a l v.1 (beq s t'))
+gap_units s num den t a l nan v = elim v [ ]
+gap_units s num den t a l (inf _) v = elim v [ ]
 
 -- the distances g and h, cross-multiplied, compare as x and y, the same in units, do
 module _ (g h x y c d l : ℕ) (p : x * c ≡ g * l) (q : y * d ≡ h * l) where
@@ -91,6 +93,8 @@ units_of f (fin t (suc m) (negsuc k)) h g =
     let d = few_digits f t m (negsuc k) h in
     let l : 2 ^ low f ≡ 2 ^ i * 2 ^ suc k = ap (λ (x : ℕ). 2 ^ x) (sym (back (low f) (suc k) (pow_le (suc k) (low f) d.1))) ∙ pow-add 2 i (suc k) in
     record { q = n; j = i; few = d.0; is = (refl, ap₂ ◌*◌ (mul-one n) l ∙ sym (mul_assoc n (2 ^ i) (2 ^ suc k))) }
+units_of f nan h g = elim g [ ]
+units_of f (inf _) h g = elim g [ ]
 
 -- ---- what `round` gives is `grid` units
 under_overflow : (f : Format) (s : Bool) (q k : ℕ) → T (finite (units f s q k)) → q * 2 ^ k < overflow f

@@ -1,0 +1,21 @@
+-- `rows::all_of` meets its contract. Assumes nothing.
+use mathlib.Core.Path.{◌≡◌, refl}
+use Prim.Native.Nat.{◌≤◌, ◌-◌, ◌/◌}
+use borrow.Author.Rules.{rules}
+use native.Mathlib.Omega.{arith}
+use lib.ListN.{length}
+use Rattle.rows.specs.Row.{row_of, row_in, unite_below}
+use Rattle.rows.proofs.TableLoops.{unite_start, unite_more, unite_last}
+use Rattle.rows.proofs.all_of.Goals as goal
+
+pub loop-s-init : goal.loop-s-init
+loop-s-init c =
+    (search rules, refl, search unite_start)
+
+pub loop-s-preserved : goal.loop-s-preserved
+loop-s-preserved c =
+    (search rules, search rules, search unite_more)
+
+pub returns : goal.returns
+returns c =
+    search unite_last

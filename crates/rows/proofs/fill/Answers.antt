@@ -1,0 +1,24 @@
+-- `rows::fill` meets its contract. Assumes nothing.
+use mathlib.Core.Path.{◌≡◌, refl, ap, ◌∙◌}
+use Prim.Native.Nat.{ℕ, suc, ◌+◌, ◌≤◌, ◌-◌, ◌*◌}
+use borrow.Author.Rules.{rules}
+use native.Mathlib.Omega.{arith}
+use lib.ListN.{length}
+use Rattle.lists.specs.Below.{each_below, front}
+use Rattle.rows.specs.Row.{row_of, spelled}
+use Rattle.rows.proofs.TableLoops.{rows_start, rows_more, rows_length}
+use Rattle.rows.proofs.fill.Goals as goal
+
+pub loop-s-init : goal.loop-s-init
+loop-s-init c =
+    (search rules, refl, search rows_start)
+
+pub loop-s-preserved : goal.loop-s-preserved
+loop-s-preserved c =
+    let u = c in
+    let k = u.loop-s in
+    let st = u in
+    let f : (ℕ → ℕ) = λ (_ : ℕ). row_of st.args.row in
+    let n : suc k.s ≤ st.args.n = omega arith in
+    let e = rows_more f st.args.rows-1.now k.s (row_of st.args.row) k.rows-1 u.put.new.1.0 (omega arith) k.invariant.2 refl u.put.ensures in
+    (omega arith, rows_length f st.args.rows-1.now (k.s + 1) u.put.new.1.0 (omega arith) e, e)

@@ -1,0 +1,8 @@
+-- `rows::row_in` meets its contract. Assumes nothing.
+use borrow.Author.Rules.{rules}
+use Rattle.rows.specs.TableLaws.{row_is}
+use Rattle.rows.proofs.row_in.Goals as goal
+
+pub returns : goal.returns
+returns c =
+    let a = c.args in row_is a.rows.now a.s

@@ -1,0 +1,13 @@
+-- `rows::with_shard` meets its contract. Assumes nothing.
+use borrow.Author.Rules.{rules}
+use mathlib.Core.Path.{ap, ◌∙◌}
+use lib.Bits.{bit_or}
+use Rattle.rows.specs.Row.{row_of}
+use Rattle.rows.proofs.Facts.{run_one}
+use Rattle.rows.proofs.with_shard.Goals as goal
+
+returns : tie.Need-returns
+returns c = let a = c.before.before.args in c.union.ensures ∙ ap (bit_or (row_of a.row)) (c.before.run.ensures ∙ run_one a.s.0)
+
+pub returns : goal.returns
+returns = returns
