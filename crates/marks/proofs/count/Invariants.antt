@@ -1,12 +1,8 @@
 use Prim.Native.Nat.{◌≤◌, ◌-◌, ◌^◌}
 use mathlib.Core.Path.{◌≡◌}
-use mathlib.Core.Logic.{⊎_elim}
-use borrow.Author.Rules.{rules}
 use lib.ListN.{length}
 use Rattle.lists.specs.Below.{those_below}
-use Rattle.lists.proofs.BelowLoops.{count_none, count_yes, count_no, count_done}
 use Rattle.marks.specs.Marks.{flagged}
-use Rattle.marks.proofs.Sizes.{size_is, size_small, bit_found}
 use Rattle.marks.proofs.count.Given as goal
 
 abbrev pub invariant-loop-m : goal.invariant-loop-m

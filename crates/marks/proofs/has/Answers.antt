@@ -1,6 +1,5 @@
 -- `marks::has` meets its contract. Assumes nothing.
 use mathlib.Core.Path.{refl}
-use borrow.Author.Rules.{rules}
 use Rattle.marks.specs.Marks.{flagged}
 use Rattle.marks.proofs.has.Goals as goal
 

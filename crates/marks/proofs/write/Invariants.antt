@@ -1,13 +1,8 @@
-use Prim.Native.Nat.{◌≤◌, ◌<◌, ◌-◌, ◌^◌}
+use Prim.Native.Nat.{◌≤◌, ◌-◌, ◌^◌}
 use mathlib.Core.Path.{◌≡◌}
-use mathlib.Core.Logic.{⊎_elim}
-use native.Mathlib.Omega.{arith}
-use borrow.Author.Rules.{rules}
 use lib.ListN.{length}
 use Rattle.lists.specs.Below.{those_below, front}
-use Rattle.lists.proofs.BelowLoops.{count_none, count_yes, count_no, write_none, write_yes, write_no, write_done, room, room_now, same_length}
 use Rattle.marks.specs.Marks.{flagged}
-use Rattle.marks.proofs.Sizes.{size_is, size_small, bit_found}
 use Rattle.marks.proofs.write.Given as goal
 
 abbrev pub invariant-loop-m : goal.invariant-loop-m

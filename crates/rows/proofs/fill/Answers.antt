@@ -20,5 +20,5 @@ loop-s-preserved c =
     let st = u in
     let f : (ℕ → ℕ) = λ (_ : ℕ). row_of st.args.row in
     let n : suc k.s ≤ st.args.n = omega arith in
-    let e = rows_more f st.args.rows-1.now k.s (row_of st.args.row) k.rows-1 u.put.new.1.0 (omega arith) k.invariant.2 refl u.put.ensures in
-    (omega arith, rows_length f st.args.rows-1.now (k.s + 1) u.put.new.1.0 (omega arith) e, e)
+    let e = rows_more f st.args.rows.now k.s (row_of st.args.row) k.rows u.put.new.rows (omega arith) k.invariant.2 refl u.put.ensures in
+    (omega arith, rows_length f st.args.rows.now (k.s + 1) u.put.new.rows (omega arith) e, e)

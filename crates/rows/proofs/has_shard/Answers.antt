@@ -4,8 +4,6 @@ use native.Mathlib.Omega.{arith}
 use Rattle.rows.proofs.Facts.{are_words, bit_found}
 use Rattle.rows.proofs.has_shard.Goals as goal
 
-returns : tie.Need-returns
-returns c = let a = c.before.before.args in bit_found a.row (are_words a.row (omega arith) (omega arith) (omega arith) (omega arith)) a.s.0 _ _ c.before.word_of.ensures c.bit_at.ensures
-
 pub returns : goal.returns
-returns = returns
+returns c =
+    let a = c.args in bit_found a.row (are_words a.row (omega arith) (omega arith) (omega arith) (omega arith)) a.s.0 _ _ c.word_of.ensures c.bit_at.ensures

@@ -3,9 +3,7 @@ use native.Mathlib.Omega.{arith}
 use Rattle.rows.specs.Row.{value}
 use Rattle.rows.proofs.low.Goals as goal
 
-returns : tie.Need-returns
-unfolding value
-returns c = omega arith
-
 pub returns : goal.returns
-returns = returns
+unfolding value
+returns c =
+    omega arith

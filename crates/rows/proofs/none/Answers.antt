@@ -3,9 +3,7 @@ use mathlib.Core.Path.{refl}
 use Rattle.rows.specs.Row.{value}
 use Rattle.rows.proofs.none.Goals as goal
 
-returns : tie.Need-returns
-unfolding value
-returns c = refl
-
 pub returns : goal.returns
-returns = returns
+unfolding value
+returns c =
+    refl

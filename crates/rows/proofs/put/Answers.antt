@@ -6,8 +6,6 @@ use lib.ListN.{length-set}
 use Rattle.rows.proofs.Facts.{are_words, put_is}
 use Rattle.rows.proofs.put.Goals as goal
 
-returns : tie.Need-returns
-returns c = let a = c.args in put_is a.rows.now (a.s * 4) a.row (are_words a.row (omega arith) (omega arith) (omega arith) (omega arith))
-
 pub returns : goal.returns
-returns = returns
+returns c =
+    let a = c.args in put_is a.rows.now (a.s * 4) a.row (are_words a.row (omega arith) (omega arith) (omega arith) (omega arith))

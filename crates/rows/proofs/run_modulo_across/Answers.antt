@@ -7,15 +7,12 @@ use lib.Bits.{bit_or}
 use Rattle.bitmap.specs.RunLaws.{run_flat, run_wraps}
 use Rattle.rows.proofs.run_modulo_across.Goals as goal
 
-returns_2 : tie.Need-returns-2
-returns_2 c =
-    let s = c.before.before.before.before in
-    let a = s.args in
-    c.union.ensures ∙ ap₂ bit_or c.before.before.run2.ensures c.before.run3.ensures ∙ sym (run_wraps a.w a.from a.k s.requires.0 s.requires.2 (omega arith))
-
 pub returns-then-a-k : goal.returns-then-a-k
 returns-then-a-k c =
     let a = c.args in c.run.ensures ∙ sym (run_flat a.w a.from a.k c.if-a-k.true)
 
 pub returns : goal.returns
-returns = returns_2
+returns c =
+    let s = c in
+    let a = s.args in
+    c.union.ensures ∙ ap₂ bit_or c.run-2.ensures c.run-3.ensures ∙ sym (run_wraps a.w a.from a.k s.requires.0 s.requires.2 (omega arith))

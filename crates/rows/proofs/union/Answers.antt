@@ -5,8 +5,6 @@ use Rattle.rows.specs.WordLaws.{value_or}
 use Rattle.rows.proofs.Facts.{are_words}
 use Rattle.rows.proofs.union.Goals as goal
 
-returns : tie.Need-returns
-returns c = let a = c.before.before.before.before.before.before.before.before.args in value_or (words a.a) (words a.b) (are_words a.a (omega arith) (omega arith) (omega arith) (omega arith)) (are_words a.b (omega arith) (omega arith) (omega arith) (omega arith))
-
 pub returns : goal.returns
-returns = returns
+returns c =
+    let a = c.args in value_or (words a.a) (words a.b) (are_words a.a (omega arith) (omega arith) (omega arith) (omega arith)) (are_words a.b (omega arith) (omega arith) (omega arith) (omega arith))

@@ -6,8 +6,6 @@ use Rattle.rows.specs.Row.{row_of}
 use Rattle.rows.proofs.Facts.{run_one}
 use Rattle.rows.proofs.with_shard.Goals as goal
 
-returns : tie.Need-returns
-returns c = let a = c.before.before.args in c.union.ensures ∙ ap (bit_or (row_of a.row)) (c.before.run.ensures ∙ run_one a.s.0)
-
 pub returns : goal.returns
-returns = returns
+returns c =
+    let a = c.args in c.union.ensures ∙ ap (bit_or (row_of a.row)) (c.run.ensures ∙ run_one a.s.0)
