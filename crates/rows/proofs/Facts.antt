@@ -13,7 +13,7 @@ use lib.Dec.{eqb}
 use lib.ListN.{get_or, set}
 use lib.Pow.{pow_pos}
 use lib.Seq.{sets}
-use Rattle.bitmap.specs.Mask.{bit, has_bit, is_below, count, run, gather}
+use Rattle.bitmap.specs.Mask.{has_bit, is_below, count, run, gather}
 use Rattle.bitmap.specs.CountLaws.{count_ones}
 use Rattle.rows.specs.declared.Row.{Row}
 use Rattle.rows.specs.Row.{value, words_of, words, row_of}

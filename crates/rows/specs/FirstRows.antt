@@ -1,6 +1,6 @@
 -- The first rows of a table as a list: one row written, what a table of zeros has, and that they spell its words. Assumes nothing.
 use Rattle.std.specs.Prelude.{◌≡◌, refl, List, [], ◌∷◌, ◌++◌, ℕ, zero, suc, ◌+◌, ◌*◌, ◌^◌, ◌≤◌, ◌<◌, length, get_or, take, drop, set, replicate}
-use Rattle.std.proofs.Common.{sym, ap, ap₂, ◌∙◌, append-nil, arith, length-set, length-take, length-drop, get_or-set_same, get_or-set_other, take-add, length-take-le, ext_get_or}
+use Rattle.std.proofs.Common.{sym, ap, ap₂, ◌∙◌, append-nil, arith, length-set, length-drop, get_or-set_same, get_or-set_other, take-add, length-take-le, ext_get_or}
 use Rattle.std.proofs.Math.Decide.{ℕ_discrete}
 use Rattle.std.proofs.lemmas.List.{length-replicate, get_or-replicate}
 use Rattle.lists.specs.Below.{each_below}

@@ -12,7 +12,7 @@ use Rattle.lists.specs.All.{all}
 use Rattle.lists.specs.AllLaws.{all_means}
 use Rattle.bitmap.specs.Mask.{bit, is_below}
 use Rattle.bitmap.specs.MaskLaws.{below_bit, bits_below}
-use Rattle.rows.specs.Row.{value, row_in, rows_in}
+use Rattle.rows.specs.Row.{row_in, rows_in}
 use Rattle.rows.specs.WordLaws.{Words, word_bit, value_lt}
 use Rattle.rows.specs.TableLaws.{part_words, rows_at, row_below}
 

@@ -17,7 +17,7 @@ use Rattle.std.proofs.Math.Seq.{drop-nil, take-nil, take-append-add, drop-append
 use Rattle.std.proofs.lemmas.List.Edits.{sets}
 use Rattle.lists.specs.All.{all}
 use Rattle.lists.specs.AllLaws.{Each}
-use Rattle.lists.specs.Below.{each_below, front}
+use Rattle.lists.specs.Below.{each_below}
 use Rattle.lists.specs.BelowLaws.{each_below_length, each_below_at, each_below_all}
 use Rattle.rows.specs.Row.{value, words_of, row_in, low_in, last_in, rows_in, spelled, with_row, unite_below}
 use Rattle.rows.specs.LowLaws.{value_low}

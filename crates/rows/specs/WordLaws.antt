@@ -1,13 +1,13 @@
 -- What the words of a row say of the number that they stand for, for rows of any count of words: a member's bit, the union, the count and
 -- its meaning in distinct members, the width, one member more, and a run. Assumes nothing.
-use Rattle.std.specs.Prelude.{◌≡◌, refl, ◌↔◌, Bool, true, ◌&&◌, List, [], ◌∷◌, ℕ, zero, suc, ◌+◌, ◌-◌, ◌*◌, ◌/◌, ◌%◌, ◌^◌, ◌≤◌, ◌<◌, min, ltb, length, get_or, set}
+use Rattle.std.specs.Prelude.{◌≡◌, refl, ◌↔◌, Bool, true, ◌&&◌, List, [], ◌∷◌, ℕ, zero, suc, ◌+◌, ◌-◌, ◌*◌, ◌/◌, ◌%◌, ◌^◌, ◌≤◌, ◌<◌, min, length, get_or, set}
 use Rattle.std.proofs.Common.{sym, ap, ap₂, subst, ◌∙◌, not-suc-le-zero, le_of_suc-le-suc, lt_of_lt_of_le, one-mul, add-mul, arith, lt-ltb, le-ltb, pow_pos, pow_mono, pow-add, shr-shr, shr_lt}
 use Rattle.std.proofs.Math.Decide.{dec_lt, dec_le}
 use Rattle.std.specs.Int.Bits.{bit_or, or_zero_r, or_zero_l, block_half, block_odd}
 use Rattle.std.proofs.lemmas.Nat.{or_block, ones_cat}
 use Rattle.std.proofs.Math.Pow.{pow-lt, high, low, split}
 use Rattle.bitmap.specs.Mask.{bit, with_bit, is_below, count, run}
-use Rattle.bitmap.specs.MaskLaws.{bit_zero, bit_half, bit_none, below_bit}
+use Rattle.bitmap.specs.MaskLaws.{bit_zero, bit_half, bit_none}
 use Rattle.bitmap.specs.CountLaws.{count_ones, count_none}
 use Rattle.bitmap.specs.Members.{Many, count_means, many_map}
 use Rattle.bitmap.specs.RunLaws.{run_is}

@@ -1,10 +1,6 @@
 -- `rows::all_of` meets its contract. Assumes nothing.
-use mathlib.Core.Path.{◌≡◌, refl}
-use Prim.Native.Nat.{◌≤◌, ◌-◌, ◌/◌}
+use mathlib.Core.Path.{refl}
 use borrow.Author.Rules.{rules}
-use native.Mathlib.Omega.{arith}
-use lib.ListN.{length}
-use Rattle.rows.specs.Row.{row_of, row_in, unite_below}
 use Rattle.rows.proofs.TableLoops.{unite_start, unite_more, unite_last}
 use Rattle.rows.proofs.all_of.Goals as goal
 

@@ -1,7 +1,6 @@
 -- `rows::are_below` meets its contract. Assumes nothing.
 use mathlib.Core.Path.{ap, ◌∙◌}
 use Prim.Native.Nat.{◌-◌}
-use borrow.Author.Rules.{rules}
 use Rattle.bitmap.specs.Mask.{is_below}
 use Rattle.rows.specs.TableLaws.{all_rows_below, last_words_below}
 use Rattle.rows.proofs.are_below.Goals as goal

@@ -1,5 +1,4 @@
 -- `rows::count` meets its contract. Assumes nothing.
-use borrow.Author.Rules.{rules}
 use native.Mathlib.Omega.{arith}
 use Rattle.rows.proofs.Facts.{are_words, counted, count_small}
 use Rattle.rows.proofs.count.Goals as goal

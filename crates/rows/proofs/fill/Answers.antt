@@ -1,11 +1,9 @@
 -- `rows::fill` meets its contract. Assumes nothing.
-use mathlib.Core.Path.{◌≡◌, refl, ap, ◌∙◌}
-use Prim.Native.Nat.{ℕ, suc, ◌+◌, ◌≤◌, ◌-◌, ◌*◌}
+use mathlib.Core.Path.{refl}
+use Prim.Native.Nat.{ℕ, suc, ◌+◌, ◌≤◌}
 use borrow.Author.Rules.{rules}
 use native.Mathlib.Omega.{arith}
-use lib.ListN.{length}
-use Rattle.lists.specs.Below.{each_below, front}
-use Rattle.rows.specs.Row.{row_of, spelled}
+use Rattle.rows.specs.Row.{row_of}
 use Rattle.rows.proofs.TableLoops.{rows_start, rows_more, rows_length}
 use Rattle.rows.proofs.fill.Goals as goal
 

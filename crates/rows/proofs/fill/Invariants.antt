@@ -1,11 +1,8 @@
-use mathlib.Core.Path.{◌≡◌, refl, ap, ◌∙◌}
-use Prim.Native.Nat.{ℕ, suc, ◌+◌, ◌≤◌, ◌-◌, ◌*◌}
-use borrow.Author.Rules.{rules}
-use native.Mathlib.Omega.{arith}
+use mathlib.Core.Path.{◌≡◌}
+use Prim.Native.Nat.{ℕ, ◌≤◌, ◌-◌}
 use lib.ListN.{length}
 use Rattle.lists.specs.Below.{each_below, front}
 use Rattle.rows.specs.Row.{row_of, spelled}
-use Rattle.rows.proofs.TableLoops.{rows_start, rows_more, rows_length}
 use Rattle.rows.proofs.fill.Given as goal
 
 abbrev pub invariant-loop-s : goal.invariant-loop-s

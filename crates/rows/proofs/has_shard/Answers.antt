@@ -1,5 +1,4 @@
 -- `rows::has_shard` meets its contract. Assumes nothing.
-use borrow.Author.Rules.{rules}
 use native.Mathlib.Omega.{arith}
 use Rattle.rows.proofs.Facts.{are_words, bit_found}
 use Rattle.rows.proofs.has_shard.Goals as goal

@@ -1,10 +1,7 @@
-use mathlib.Core.Path.{◌≡◌, refl}
+use mathlib.Core.Path.{◌≡◌}
 use Prim.Native.Nat.{◌≤◌, ◌-◌, ◌/◌}
-use borrow.Author.Rules.{rules}
-use native.Mathlib.Omega.{arith}
 use lib.ListN.{length}
 use Rattle.rows.specs.Row.{last_in, unite_below}
-use Rattle.rows.proofs.TableLoops.{unite_more, unite_done}
 use Rattle.rows.proofs.last_of.Given as goal
 
 abbrev pub invariant-loop-s : goal.invariant-loop-s

@@ -1,12 +1,7 @@
 -- `rows::last_of_fours` meets its contract. Assumes nothing.
-use mathlib.Core.Path.{◌≡◌, refl}
-use Prim.Native.Nat.{◌≤◌, ◌-◌, ◌*◌, ◌/◌}
+use mathlib.Core.Path.{refl}
 use borrow.Author.Rules.{rules}
-use native.Mathlib.Omega.{arith}
-use lib.Bits.{bit_or}
-use lib.ListN.{length}
-use Rattle.rows.specs.Row.{last_in, unite_below}
-use Rattle.rows.proofs.TableLoops.{unite_start, fours_more, fours_done}
+use Rattle.rows.proofs.TableLoops.{unite_start, fours_more}
 use Rattle.rows.proofs.last_of_fours.Goals as goal
 
 pub loop-g-init : goal.loop-g-init

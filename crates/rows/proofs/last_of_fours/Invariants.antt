@@ -1,11 +1,8 @@
-use mathlib.Core.Path.{◌≡◌, refl}
+use mathlib.Core.Path.{◌≡◌}
 use Prim.Native.Nat.{◌≤◌, ◌-◌, ◌*◌, ◌/◌}
-use borrow.Author.Rules.{rules}
-use native.Mathlib.Omega.{arith}
 use lib.Bits.{bit_or}
 use lib.ListN.{length}
 use Rattle.rows.specs.Row.{last_in, unite_below}
-use Rattle.rows.proofs.TableLoops.{unite_start, fours_more, fours_done}
 use Rattle.rows.proofs.last_of_fours.Given as goal
 
 abbrev pub invariant-loop-g : goal.invariant-loop-g

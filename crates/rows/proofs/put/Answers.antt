@@ -1,8 +1,6 @@
 -- `rows::put` meets its contract. Assumes nothing.
-use borrow.Author.Rules.{rules}
 use native.Mathlib.Omega.{arith}
 use Prim.Native.Nat.{◌*◌}
-use lib.ListN.{length-set}
 use Rattle.rows.proofs.Facts.{are_words, put_is}
 use Rattle.rows.proofs.put.Goals as goal
 

@@ -1,5 +1,4 @@
 -- `rows::row_in` meets its contract. Assumes nothing.
-use borrow.Author.Rules.{rules}
 use Rattle.rows.specs.TableLaws.{row_is}
 use Rattle.rows.proofs.row_in.Goals as goal
 

@@ -1,5 +1,4 @@
 -- `rows::run_across` meets its contract. Assumes nothing.
-use borrow.Author.Rules.{rules}
 use mathlib.Core.Path.{◌∙◌}
 use Rattle.rows.proofs.Facts.{run_is}
 use Rattle.rows.specs.WordLaws.{value_run}

@@ -1,8 +1,6 @@
 -- `rows::run_modulo_across` meets its contract. Assumes nothing.
-use borrow.Author.Rules.{rules}
 use native.Mathlib.Omega.{arith}
 use mathlib.Core.Path.{sym, ap₂, ◌∙◌}
-use native.Mathlib.Nat.{mod-lt}
 use lib.Bits.{bit_or}
 use Rattle.bitmap.specs.RunLaws.{run_flat, run_wraps}
 use Rattle.rows.proofs.run_modulo_across.Goals as goal

@@ -1,6 +1,6 @@
 -- `rows::taken` meets its contract. Assumes nothing.
 use native.Mathlib.Omega.{arith}
-use Rattle.rows.proofs.Facts.{are_words, all_small, taken_is}
+use Rattle.rows.proofs.Facts.{are_words, taken_is}
 use Rattle.rows.proofs.taken.Goals as goal
 
 pub returns : goal.returns

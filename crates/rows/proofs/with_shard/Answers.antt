@@ -1,5 +1,4 @@
 -- `rows::with_shard` meets its contract. Assumes nothing.
-use borrow.Author.Rules.{rules}
 use mathlib.Core.Path.{ap, ◌∙◌}
 use lib.Bits.{bit_or}
 use Rattle.rows.specs.Row.{row_of}
