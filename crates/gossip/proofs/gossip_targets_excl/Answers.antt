@@ -1,0 +1,40 @@
+-- `gossip::gossip_targets_excl` meets its contract. Assumes nothing.
+use mathlib.Core.Path.{refl, sym, ◌∙◌}
+use native.Mathlib.Omega.{arith}
+use borrow.Author.Rules.{rules}
+use Rattle.refusals.proofs.Outcomes.{outcomes, leaves_all}
+use Rattle.gossip.specs.Gossip.{gossip_of, exclusions_left}
+use Rattle.gossip.specs.RefusalLaws.{gossip_sound}
+use Rattle.gossip.proofs.Steps.{asks, excludes}
+use Rattle.gossip.proofs.gossip_targets_excl.Goals as goal
+
+pub returns-then-no-ne0 : goal.returns-then-no-ne0
+unfolding gossip_of exclusions_left
+returns-then-no-ne0 c =
+    (search outcomes, search leaves_all)
+
+pub walk-end-requires : goal.walk-end-requires
+unfolding gossip_of exclusions_left
+walk-end-requires c =
+    let f = c in
+    let i = f in
+    let s = (gossip_sound _ _ _ _ _ _ _ _ _).0 (sym i.gossip_refusal-no.ensures ∙ i.if-no-ne0.false) in
+    let k = f.fill.auto.1.0 in
+    (s.population.0, s.population.1, s.replica, s.source_replica, s.table, omega (arith, k, s.each_exclusion))
+
+pub returns : goal.returns
+unfolding gossip_of exclusions_left
+returns c =
+    let l = c in
+    let f = l in
+    let i = f in
+    let e = i.gossip_refusal-no.ensures in
+    let z = i.if-no-ne0.false in
+    let x = i.args.exclusions.now in
+    let s = (gossip_sound _ _ _ _ _ _ _ _ _).0 (sym e ∙ z) in
+    let t = l.walk-end.new.exclusions in
+    let k = f.fill.auto.1.0 in
+    let j = l.walk-end.auto.1.1.1.1.1.1.1.0 in (
+      asks _ _ _ _ _ _ _ _ x _ e z _ f.fill.ensures _ l.walk-end.ensures,
+      excludes _ _ _ _ _ _ _ _ x _ e z _ f.fill.ensures _ l.walk-end.ensures t refl (λ i. (c.slice_known-3-1.given i).ranges) (omega (arith, j, k, s.each_exclusion)),
+    )

@@ -1,0 +1,15 @@
+-- `maximal::peel` meets its contract. The loop's invariant: the words below k are done, and the others as they were. Assumes nothing.
+use Prim.Native.Nat.{◌-◌, ◌≤◌}
+use mathlib.Core.Path.{◌≡◌, refl}
+use borrow.Author.Rules.{rules}
+use lib.ListN.{length, length-set}
+use Rattle.maximal.proofs.Passes.{Kept, Left, none_kept, one_kept, rest_left, all_kept}
+use Rattle.maximal.proofs.peel.Goals as goal
+
+pub loop-k-preserved : goal.loop-k-preserved
+loop-k-preserved c =
+    (simp length-set (search rules), simp length-set (search rules), search one_kept, search rest_left)
+
+pub returns : goal.returns
+returns c =
+    search all_kept

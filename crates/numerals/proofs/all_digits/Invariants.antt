@@ -1,0 +1,15 @@
+use mathlib.Core.Path.{refl}
+use Prim.Native.Nat.{◌≤◌, ◌-◌}
+use borrow.Author.Rules.{rules}
+use lib.ListN.{length}
+use Rattle.lists.proofs.Loops.{Passed, pass, fail, done}
+use Rattle.numerals.specs.Whole.{is_digit}
+use Rattle.numerals.proofs.all_digits.Given as goal
+
+abbrev pub invariant-loop-i : goal.invariant-loop-i
+invariant-loop-i l =
+    (l.i ≤ length l.s) × Passed is_digit l.s l.i
+
+abbrev pub decreases-loop-i : goal.decreases-loop-i
+decreases-loop-i l =
+    length l.s - l.i

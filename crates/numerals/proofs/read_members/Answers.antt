@@ -1,0 +1,8 @@
+-- `numerals::read_members` meets its contract. Assumes nothing.
+use borrow.Author.Rules.{rules}
+use Rattle.numerals.proofs.Scans.{mask_refused, mask_read}
+use Rattle.numerals.proofs.read_members.Goals as goal
+
+pub returns-in-Row : goal.returns-in-Row
+returns-in-Row c =
+    let r = c in mask_read _ _ _ r.read_shards.ensures r.requires c.row-1.given.1

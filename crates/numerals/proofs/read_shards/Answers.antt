@@ -1,0 +1,45 @@
+-- `numerals::read_shards` meets its contract. Assumes nothing.
+use mathlib.Core.Path.{◌≡◌, refl}
+use Prim.Native.Nat.{◌≤◌, ◌-◌}
+use native.Mathlib.Omega.{arith}
+use borrow.Author.Rules.{rules}
+use lib.ListN.{length, drop}
+use Rattle.rows.specs.Row.{row_of}
+use Rattle.numerals.specs.Text.{split}
+use Rattle.numerals.specs.Read.{read_each}
+use Rattle.numerals.specs.ReadLaws.{read_refused, read_last, read_more}
+use Rattle.numerals.specs.Whole.{member_in, members_of}
+use Rattle.numerals.proofs.Scans.{member_refused, member_read, member_below}
+use Rattle.numerals.proofs.read_shards.Goals as goal
+
+pub loop-no-init : goal.loop-no-init
+unfolding members_of
+loop-no-init c =
+    (search rules, rw c.none-row.ensures)
+
+pub returns-in-Refused : goal.returns-in-Refused
+unfolding members_of
+returns-in-Refused c =
+    let r = c in
+    read_refused (member_in _ _) _ r.loop-no.invariant.1 r.part-q.ensures (member_refused _ _ _ r.read_member.ensures _ c.no-1.given.1)
+
+pub with_shard-row-requires : goal.with_shard-row-requires
+unfolding members_of
+with_shard-row-requires c =
+    let h = member_below _ _ _ c.read_member.ensures c.v-1.given.1 in omega (arith, h)
+
+pub returns-then-p-s : goal.returns-then-p-s
+unfolding members_of
+returns-then-p-s c =
+    let k = c in
+    let r = k in
+    let e = member_read _ _ _ r.read_member.ensures k.v-1.given.1 (row_of r.loop-no.row) c.with_shard-row.ensures in
+    read_last (member_in _ _) _ r.loop-no.invariant.1 r.part-q.ensures e c.if-p-s.true
+
+pub loop-no-preserved : goal.loop-no-preserved
+unfolding members_of
+loop-no-preserved c =
+    let k = c in
+    let r = k in
+    let e = member_read _ _ _ r.read_member.ensures k.v-1.given.1 (row_of r.loop-no.row) c.with_shard-row.ensures in
+    (search rules, read_more (member_in _ _) _ r.loop-no.invariant.1 r.part-q.ensures e c.if-p-s.false)

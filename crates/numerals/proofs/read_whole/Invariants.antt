@@ -1,0 +1,15 @@
+use mathlib.Core.Path.{◌≡◌}
+use Prim.Native.Nat.{◌≤◌, ◌-◌}
+use borrow.Author.Rules.{rules}
+use lib.ListN.{length, drop}
+use Rattle.numerals.specs.Whole.{whole_of}
+use Rattle.numerals.proofs.Scans.{capped, whole_empty, whole_start, whole_low, whole_high, whole_next, whole_over, whole_end}
+use Rattle.numerals.proofs.read_whole.Given as goal
+
+abbrev pub invariant-loop-i : goal.invariant-loop-i
+invariant-loop-i l =
+    (l.i ≤ length l.u) × (l.v ≤ 255) × (whole_of l.s ≡ capped l.v (drop l.i l.u))
+
+abbrev pub decreases-loop-i : goal.decreases-loop-i
+decreases-loop-i l =
+    length l.u - l.i

@@ -1,0 +1,14 @@
+use mathlib.Core.Path.{◌≡◌, refl}
+use Prim.Native.Nat.{◌≤◌, ◌-◌}
+use borrow.Author.Rules.{rules}
+use lib.ListN.{length}
+use Rattle.numerals.proofs.Scans.{Same, same_next, same_differ, same_end, same_lengths}
+use Rattle.numerals.proofs.same.Given as goal
+
+abbrev pub invariant-loop-i : goal.invariant-loop-i
+invariant-loop-i l =
+    (l.i ≤ length l.s) × (length l.s ≡ length l.t) × Same l.i l.s l.t
+
+abbrev pub decreases-loop-i : goal.decreases-loop-i
+decreases-loop-i l =
+    length l.s - l.i
