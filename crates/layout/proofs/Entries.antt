@@ -43,9 +43,9 @@ laid_below n d total loads h w table e q s l =
 
 -- ---- `layout_rows`
 module _ (n d : ℕ) (total : TotalShards) (loads rows : List ℕ) (got : ℕ) (e : got ≡ rows_refusal n d total (length loads) (length rows)) (z : got ≡ 0) where
-  pub rows_written : (after : List ℕ) → after ≡ front (spelled (rows_of d total loads)) rows → after ≡ rows_written n d total loads rows
+  pub rows_written_are : (after : List ℕ) → after ≡ front (spelled (rows_of d total loads)) rows → after ≡ rows_written n d total loads rows
   unfolding rows_written
-  rows_written after l =
+  rows_written_are after l =
       let s = (rows_sound n d total (length loads) (length rows)).0 (sym e ∙ z) in
       rw (sym e ∙ z) (l ∙ whole d total loads rows (omega arith))
 

@@ -287,10 +287,10 @@ unfolding layout_rows_of
 layout_rows_means n d total loads rows w = accepted_means (rows_refusal n d total (length loads) rows) (width_of d total loads) w
 
 -- and its table then holds the rows, four words a row
-pub rows_written : (n d : ℕ) (total : TotalShards) (loads rows : List ℕ) → rows_refusal n d total (length loads) (length rows) ≡ 0
+pub rows_written_are : (n d : ℕ) (total : TotalShards) (loads rows : List ℕ) → rows_refusal n d total (length loads) (length rows) ≡ 0
     → rows_written n d total loads rows ≡ spelled (rows_of d total loads)
 unfolding rows_written
-rows_written n d total loads rows e = rw e
+rows_written_are n d total loads rows e = rw e
 
 -- `layout_commits` answers w and yes exactly if nothing refuses, w is the width, a quorum of different replicas answer, and without any one listed set there
 -- are d different shards, each in the row of one that answers outside it

@@ -11,7 +11,7 @@ use Rattle.gossip.proofs.gossip_targets_excl.Goals as goal
 pub returns-then-no-ne0 : goal.returns-then-no-ne0
 unfolding gossip_of exclusions_left
 returns-then-no-ne0 c =
-    (search outcomes, search leaves_all)
+    record { answer = search outcomes; words = search leaves_all }
 
 pub walk-end-requires : goal.walk-end-requires
 unfolding gossip_of exclusions_left
@@ -19,7 +19,7 @@ walk-end-requires c =
     let f = c in
     let i = f in
     let s = (gossip_sound _ _ _ _ _ _ _ _ _).0 (sym i.gossip_refusal-no.ensures ∙ i.if-no-ne0.false) in
-    let k = f.fill.auto.1.0 in
+    let k = f.fill.auto.rows in
     (s.population.0, s.population.1, s.replica, s.source_replica, s.table, omega (arith, k, s.each_exclusion))
 
 pub returns : goal.returns
@@ -33,8 +33,5 @@ returns c =
     let x = i.args.exclusions.now in
     let s = (gossip_sound _ _ _ _ _ _ _ _ _).0 (sym e ∙ z) in
     let t = l.walk-end.new.exclusions in
-    let k = f.fill.auto.1.0 in
-    let j = l.walk-end.auto.1.1.1.1.1.1.1.0 in (
-      asks _ _ _ _ _ _ _ _ x _ e z _ f.fill.ensures _ l.walk-end.ensures,
-      excludes _ _ _ _ _ _ _ _ x _ e z _ f.fill.ensures _ l.walk-end.ensures t refl (λ i. (c.slice_known-3-1.given i).ranges) (omega (arith, j, k, s.each_exclusion)),
-    )
+    let k = f.fill.auto.rows in
+    let j = l.walk-end.auto.exclusions in record { answer = asks _ _ _ _ _ _ _ _ x _ e z _ f.fill.ensures _ l.walk-end.ensures; words = excludes _ _ _ _ _ _ _ _ x _ e z _ f.fill.ensures _ l.walk-end.ensures t refl (λ i. c.type_inv.exclusions i) (omega (arith, j, k, s.each_exclusion)) }

@@ -26,7 +26,7 @@ loop-j-preserved c =
       ⊎_elim (λ w. ap length w.5 ∙ w.2.kept.1.1.1.1.1.0 ∙ l.loop-j.invariant.1) (λ w. ap length w.1 ∙ l.loop-j.invariant.1) c.if-p-source.branch,
       ⊎_elim
           (λ w. ring_other _ _ _ _ _ _ _ l.loop-j.j _ l.loop-j.invariant.2 _ w.0.taken (ap₂ (λ v l. walked v (rows_in l)) w.6 w.5 ∙ w.2.ensures))
-          (λ w. ap₂ (λ v l. walked v (rows_in l)) w.2 w.1 ∙ ring_source _ _ _ _ _ _ _ l.loop-j.j _ l.loop-j.invariant.2 w.0.left)
+          (λ w. ap₂ (λ v l. walked v (rows_in l)) w.2 w.1 ∙ ring_source _ _ _ _ _ _ _ l.loop-j.j _ l.loop-j.invariant.2 w.if-p-source.false)
           c.if-p-source.branch,
     )
 

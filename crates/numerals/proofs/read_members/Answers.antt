@@ -5,4 +5,4 @@ use Rattle.numerals.proofs.read_members.Goals as goal
 
 pub returns-in-Row : goal.returns-in-Row
 returns-in-Row c =
-    let r = c in mask_read _ _ _ r.read_shards.ensures r.requires c.row-1.given.1
+    let r = c in mask_read _ _ _ r.read_shards.ensures r.requires c.in-Row.is

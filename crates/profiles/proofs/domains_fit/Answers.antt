@@ -15,3 +15,7 @@ returns-then-count-ge64 c =
     let s = c in
     let l : length s.args.p.domains ≡ 64 = search rules in
     c.are_masks.ensures ∙ ap (all (is_mask s.args.n)) (sym (take_all s.args.p.domain_count s.args.p.domains (omega arith)))
+
+pub returns : goal.returns
+unfolding domains_fit
+returns c = search rules

@@ -1,0 +1,34 @@
+-- `layout::deal` meets its contract. Assumes nothing.
+use mathlib.Core.Path.{◌≡◌, refl, ap, ◌∙◌}
+use mathlib.Core.List.{List}
+use Prim.Native.Nat.{ℕ, ◌+◌, ◌≤◌, ◌-◌}
+use native.Mathlib.Omega.{arith}
+use borrow.Author.Rules.{rules}
+use lib.ListN.{length, take}
+use Rattle.lists.specs.Below.{each_below, front}
+use Rattle.rows.specs.Row.{spelled}
+use Rattle.rows.proofs.TableLoops.{rows_start, rows_more, rows_length}
+use Rattle.layout.specs.Layout.{partial, row_at}
+use Rattle.layout.proofs.Loads.{sum_more, sum_small, row_is}
+use Rattle.layout.proofs.deal.Goals as goal
+
+pub loop-s-init : goal.loop-s-init
+loop-s-init c =
+    (search rules, refl, refl, rows_start (row_at _ _ _) _)
+
+pub overflow_add-offset : goal.overflow_add-offset
+overflow_add-offset c =
+    let i = c in
+    let h = sum_small _ _ _ _ i.loop-s.invariant.2 _ i.loop-s-test.true c.dealt.ensures (omega arith) (omega arith) in
+    omega (arith, h)
+
+pub loop-s-preserved : goal.loop-s-preserved
+loop-s-preserved c =
+    let u = c in
+    let r = u in
+    let i = r in
+    let l = i.loop-s in
+    let a = i.args in
+    let f : (ℕ → ℕ) = row_at a.d a.w a.loads.now in
+    let e = rows_more f a.rows.now l.s _ l.rows u.put.new.rows (omega arith) l.invariant.3 (row_is a.d a.loads.now l.s l.offset.0 l.invariant.2 a.w _ r.row_for.ensures) u.put.ensures in
+    (search rules, rows_length f a.rows.now (l.s + 1) u.put.new.rows (omega arith) e, search sum_more, e)

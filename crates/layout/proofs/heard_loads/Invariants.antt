@@ -1,0 +1,15 @@
+use Prim.Native.Nat.{◌-◌}
+use native.Mathlib.Omega.{arith}
+use borrow.Author.Rules.{rules}
+use lib.ListN.{length}
+use Rattle.lists.proofs.BelowLoops.{Filled, filled_none, filled_more, filled_done}
+use Rattle.layout.specs.Layout.{heard_load, heard_loads}
+use Rattle.layout.proofs.heard_loads.Given as goal
+
+abbrev pub invariant-loop-s : goal.invariant-loop-s
+invariant-loop-s l =
+    Filled (heard_load l.answered l.loads) (length l.loads) l.heard l.s
+
+abbrev pub decreases-loop-s : goal.decreases-loop-s
+decreases-loop-s l =
+    length l.loads - l.s

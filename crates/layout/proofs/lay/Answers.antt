@@ -1,0 +1,18 @@
+-- `layout::lay` meets its contract. Assumes nothing.
+use borrow.Author.Rules.{rules}
+use Rattle.layout.specs.Layout.{rows_of}
+use Rattle.layout.specs.LayoutLaws.{width_fits}
+use Rattle.layout.proofs.lay.Goals as goal
+
+pub deal-requires : goal.deal-requires
+unfolding rows_of
+deal-requires c =
+    let p = c.requires in
+    (rw c.width_of-w.ensures (width_fits _ _ _ p.0), p.1, p.2)
+
+pub returns : goal.returns
+unfolding rows_of
+returns c =
+    let d = c in
+    let w = d in
+    record { width = w.width_of-w.ensures; words = rw (← w.width_of-w.ensures) d.deal.ensures }
