@@ -1,6 +1,6 @@
 -- What each term of a predicted time counts: a MiB takes the slope, no bytes take the delay and the jitter, a penalty counts by the
 -- unreliability, and a shard to be sent counts as its bytes in flight do. Assumes nothing.
-use Rattle.std.specs.Prelude.{◌≡◌, ℕ, zero, suc, ◌+◌, ◌*◌, ◌<◌, Bool, true, false, T, pos, refl, Float}
+use Rattle.std.specs.Prelude.{◌≡◌, ℕ, zero, suc, ◌+◌, ◌*◌, ◌<◌, true, false, T, pos, refl, Float}
 use Rattle.std.proofs.Math.Path.{ap}
 use Rattle.std.proofs.Common.{ap₂, ◌∙◌, one-mul, mul-zero, mul-one, mul-pos, zero-lt-suc, arith}
 use Rattle.std.proofs.Math.Nat.{zero-mul}

@@ -1,5 +1,5 @@
 -- Predicted reply times, in binary64, rounded at each operation, left to right. Assumes nothing.
-use Rattle.std.specs.Prelude.{◌≡◌, ℕ, suc, ◌+◌, ◌-◌, ◌*◌, ◌/◌, ◌%◌, ◌^◌, ◌<◌, ◌≤◌, max, Bool, false, cond, List, pos, ◌==◌, ◌≢◌, slice_index_or, Float}
+use Rattle.std.specs.Prelude.{ℕ, suc, ◌+◌, ◌-◌, ◌*◌, ◌/◌, ◌%◌, ◌^◌, ◌<◌, ◌≤◌, max, Bool, false, cond, List, pos, ◌==◌, ◌≢◌, slice_index_or, Float}
 use Rattle.std.specs.Float.{inf, fin, binary64}
 use Rattle.std.specs.Float.Ieee.{add, mul, div, of_int}
 use Rattle.lists.specs.Below.{each_below}

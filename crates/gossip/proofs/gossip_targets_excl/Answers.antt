@@ -34,4 +34,4 @@ returns c =
     let s = (gossip_sound _ _ _ _ _ _ _ _ _).0 (sym e ∙ z) in
     let t = l.walk-end.new.exclusions in
     let k = f.fill.auto.rows in
-    let j = l.walk-end.auto.exclusions in record { answer = asks _ _ _ _ _ _ _ _ x _ e z _ f.fill.ensures _ l.walk-end.ensures; words = excludes _ _ _ _ _ _ _ _ x _ e z _ f.fill.ensures _ l.walk-end.ensures t refl (λ i. c.type_inv.exclusions i) (omega (arith, j, k, s.each_exclusion)) }
+    let j = l.walk-end.auto.exclusions in record { answer = asks _ _ _ _ _ _ _ _ x _ e z _ f.fill.ensures _ l.walk-end.ensures; words = excludes _ _ _ _ _ _ _ _ x _ e z _ f.fill.ensures _ l.walk-end.ensures t refl (λ i. (c.type_inv.exclusions i).fits) (omega (arith, j, k, s.each_exclusion)) }

@@ -10,6 +10,7 @@ use Rattle.rows.specs.Row.{row_of, row_in, rows_in}
 use Rattle.gossip.specs.Gossip.{walked, fresh}
 use Rattle.gossip.proofs.Steps.{place_below, place_inside, ring_to, ring_starts, ring_source, ring_other, ring_over, ring_done}
 use Rattle.gossip.proofs.walk_ring.Goals as goal
+use Rattle.gossip.proofs.walk_ring.Goals.{then-p-source, else-p-source}
 
 pub loop-j-init : goal.loop-j-init
 loop-j-init c =
@@ -21,13 +22,13 @@ returns-then-so_far c =
 
 pub loop-j-preserved : goal.loop-j-preserved
 loop-j-preserved c =
-    let l = c in (
+    let l = c.loop-j in (
       search rules,
-      ⊎_elim (λ w. ap length w.5 ∙ w.2.kept.1.1.1.1.1.0 ∙ l.loop-j.invariant.1) (λ w. ap length w.1 ∙ l.loop-j.invariant.1) c.if-p-source.branch,
-      ⊎_elim
-          (λ w. ring_other _ _ _ _ _ _ _ l.loop-j.j _ l.loop-j.invariant.2 _ w.0.taken (ap₂ (λ v l. walked v (rows_in l)) w.6 w.5 ∙ w.2.ensures))
-          (λ w. ap₂ (λ v l. walked v (rows_in l)) w.2 w.1 ∙ ring_source _ _ _ _ _ _ _ l.loop-j.j _ l.loop-j.invariant.2 w.if-p-source.false)
-          c.if-p-source.branch,
+      c.if-p-source.auto.exclusions ∙ l.invariant.1,
+      elim c.if-p-source.branch [
+        then-p-source w ↦ ring_other _ _ _ _ _ _ _ l.j _ l.invariant.2 _ w.if-p-source.true (ap₂ (λ v l. walked v (rows_in l)) w.so_far-is w.exclusions-is ∙ w.visit-so_far.ensures)
+        | else-p-source w ↦ ap₂ (λ v l. walked v (rows_in l)) w.so_far-is w.exclusions-is ∙ ring_source _ _ _ _ _ _ _ l.j _ l.invariant.2 w.if-p-source.false
+      ],
     )
 
 pub returns : goal.returns

@@ -1,8 +1,6 @@
-use Rattle.std.proofs.Common.{◌≡◌, suc, ◌+◌, ◌-◌, ◌*◌, ◌<◌, ◌≤◌, sym, ◌∙◌, inl, inr, arith, rules}
-use borrow.Author.Tests.{eqb-false}
-use Rattle.lists.proofs.BelowLoops.{Filled, filled_none, filled_more, filled_done}
-use Rattle.times.specs.Times.{cell, times_of}
-use Rattle.times.proofs.Tables.{replica, due, next_row, next_load}
+use Rattle.std.proofs.Common.{◌≡◌, suc, ◌+◌, ◌-◌, ◌*◌, ◌≤◌}
+use Rattle.lists.proofs.BelowLoops.{Filled}
+use Rattle.times.specs.Times.{cell}
 use Rattle.times.proofs.fill_times.Given as goal
 
 abbrev pub invariant-loop-i : goal.invariant-loop-i

@@ -1,5 +1,4 @@
 -- `times::predict` meets its contract. Assumes nothing.
-use Rattle.std.proofs.Common.{rules}
 use lib.Ieee.{of_bits}
 use Rattle.times.specs.Times.{predict_of}
 use Rattle.times.proofs.predict.Goals as goal

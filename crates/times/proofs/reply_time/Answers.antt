@@ -1,5 +1,5 @@
 -- `times::reply_time` meets its contract. Assumes nothing.
-use Rattle.std.proofs.Common.{sym, ap, rules}
+use Rattle.std.proofs.Common.{sym, ap}
 use lib.Ieee.{of_bits, div}
 use Rattle.times.specs.Times.{reply_time}
 use Rattle.times.specs.declared.Peer.{Peer}

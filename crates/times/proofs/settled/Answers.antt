@@ -1,5 +1,5 @@
 -- `times::settled` meets its contract. Assumes nothing.
-use Rattle.std.proofs.Common.{sym, ◌∙◌, rules}
+use Rattle.std.proofs.Common.{sym, ◌∙◌}
 use lib.Ieee.{of_bits, div}
 use Rattle.times.specs.Times.{settled}
 use Rattle.times.proofs.settled.Goals as goal

@@ -1,5 +1,5 @@
 -- `times::shard_length` meets its contract. Assumes nothing.
-use Rattle.std.proofs.Common.{arith, rules}
+use Rattle.std.proofs.Common.{arith}
 use Rattle.times.specs.Times.{shard_length}
 use Rattle.times.proofs.shard_length.Goals as goal
 

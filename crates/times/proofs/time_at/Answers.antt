@@ -1,5 +1,4 @@
 -- `times::time_at` meets its contract. Assumes nothing.
-use Rattle.std.proofs.Common.{mul-le-mul, arith, rules}
 use lib.Ieee.{of_bits}
 use Rattle.times.specs.Times.{time_at}
 use Rattle.times.proofs.time_at.Goals as goal

@@ -1,10 +1,9 @@
 -- `times::time_in` meets its contract. Assumes nothing.
-use Rattle.std.proofs.Common.{ℕ, ◌+◌, ◌*◌, get_or, sym, ap, ◌∙◌, add-one, arith, rules}
-use lib.Ieee.{nan, of_bits, div}
+use Rattle.std.proofs.Common.{sym, add-one}
+use lib.Ieee.{of_bits, div}
 use lib.ListN.{get_or-eq_default}
-use Rattle.lists.specs.AllLaws.{inside_any}
 use Rattle.times.specs.Times.{never}
-use Rattle.times.proofs.Tables.{past_table, place_small}
+use Rattle.times.proofs.Tables.{past_table}
 use Rattle.times.proofs.time_in.Goals as goal
 
 pub returns-then-times-p : goal.returns-then-times-p
