@@ -6,7 +6,7 @@ use native.Mathlib.Nat.{mul-one, mul-pos, mul_comm, mul_assoc, mul_left_comm, lt
 use native.Mathlib.Omega.{arith}
 use borrow.Author.Tests.{ne_eqb}
 use lib.Pow.{pow-add}
-use lib.Ieee.{Float, fin, binary64, up, down, round, mul, div}
+use lib.Ieee.{inf, nan, Float, fin, binary64, up, down, round, mul, div}
 use lib.Ieee.Fits.{down_pos}
 use lib.Ieee.Exact.{HasValue}
 use lib.Ieee.Scale.{round_same}
@@ -22,6 +22,10 @@ mul_exact (fin false m e) (fin false n d) a b v w =
     let q : n * up d ≡ b * down d = sym (mul-one (n * up d)) ∙ w.1 in
     round_same binary64 false (m * up e * (n * up d)) (down e * down d) (a * b) 1 (mul-pos (down_pos e) (down_pos d)) (zero-lt-suc 0)
     (rw (p, q) (simp (mul-one, mul_assoc, mul_left_comm)))
+mul_exact nan y a b v w = elim v [ ]
+mul_exact (inf _) y a b v w = elim v [ ]
+mul_exact (fin false m e) nan a b v w = elim w [ ]
+mul_exact (fin false m e) (inf _) a b v w = elim w [ ]
 
 div_exact : (x y : Float) (a b : ℕ) → 0 < b → HasValue x false a 1 → HasValue y false b 1 → div binary64 x y ≡ round binary64 false a b
 unfolding div
@@ -33,6 +37,10 @@ div_exact (fin false m e) (fin false n d) a b B v w =
     let D : 0 < n * up d = rw q (mul-pos B (down_pos d)) in
     rw (ne_eqb n 0 (λ z. lt_irrefl 0 (rw (z, zero-mul) at D)))
     (round_same binary64 false (m * up e * down d) (n * up d * down e) a b (mul-pos D (down_pos e)) B (rw (p, q) (simp (mul_assoc, mul_comm, mul_left_comm))))
+div_exact nan y a b B v w = elim v [ ]
+div_exact (inf _) y a b B v w = elim v [ ]
+div_exact (fin false m e) nan a b B v w = elim w [ ]
+div_exact (fin false m e) (inf _) a b B v w = elim w [ ]
 
 -- ---- and the power of ten that both have in common goes
 apart : (u d : ℕ) → d ≤ u → 10 ^ u ≡ 10 ^ (u - d) * 10 ^ d

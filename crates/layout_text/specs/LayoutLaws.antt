@@ -1,8 +1,8 @@
 -- What a layout text that was read gives: the lengths of runs, what a text without a colon comes to, and that the rows are rows. And what the checks let
 -- through. Assumes nothing.
 use Rattle.std.proofs.Math.Path.{◌≡◌, refl, sym, subst}
-use Rattle.std.proofs.Common.{ap, ◌∙◌, inl, inr, ⊎_elim, div-le_self, lt_of_lt_of_le, arith, length-set, pow_mono, length-take-le, get_or-set_same, get_or-set_other, ltb-true, leb-true, le-leb, eqb-true, eq-eqb, ne_eqb}
-use Rattle.std.specs.Prelude.{◌↔◌, ◌⊎◌, Bool, true, false, cond, ◌&&◌, ◌||◌, List, [], ◌∷◌, ℕ, zero, suc, ◌*◌, ◌%◌, ◌^◌, ◌≤◌, ◌<◌, leb, eqb, length, take, get_or, replicate}
+use Rattle.std.proofs.Common.{ap, ◌∙◌, inl, inr, ⊎_elim, div-le_self, arith, length-set, length-take-le, get_or-set_same, get_or-set_other, leb-true, le-leb, eqb-true, eq-eqb, ne_eqb}
+use Rattle.std.specs.Prelude.{◌↔◌, ◌⊎◌, Bool, true, false, cond, ◌&&◌, ◌||◌, List, [], ◌∷◌, ℕ, zero, suc, ◌*◌, ◌%◌, ◌≤◌, ◌<◌, leb, eqb, length, take, get_or, replicate}
 use Rattle.std.proofs.Math.Bool.{and-eq-true_iff}
 use Rattle.std.proofs.Math.Decide.{ℕ_discrete, dec_lt}
 use Rattle.std.specs.Int.Bits.{bit_or}

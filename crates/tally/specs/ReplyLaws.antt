@@ -3,7 +3,7 @@
 use Rattle.std.specs.Prelude.{◌≡◌, refl, ◌↔◌, ◌⊎◌, Bool, ℕ, zero, suc, ◌+◌, ◌*◌, ◌^◌, ◌≤◌, ◌<◌, eqb, get_or, take, replicate}
 use Rattle.std.proofs.Common.{sym, ap, ◌∙◌, inl, inr, ⊎_elim, true≢false, lt_of_lt_of_le, arith, pow_mono, pow_pos}
 use Rattle.std.proofs.Math.Path.{subst}
-use Rattle.std.proofs.Math.Logic.{Iff·trans, ⊎_map}
+use Rattle.std.proofs.Math.Logic.{Iff.trans, ⊎_map}
 use Rattle.std.proofs.Math.Bool.{true, false, cond}
 use mathlib.Core.List.Memᴰ
 use mathlib.Core.List.{List, [], ◌∷◌, ◌++◌, append-nil, append_assoc, Memᴰ}
@@ -311,7 +311,7 @@ module _ {n heard : ℕ} {rows : List ℕ} {us : List Reply} (sums : Sums n hear
             → (bit (row_in (with_row rows r.source row) s) k ≡ 1) ↔ ((bit (row_in rows s) k ≡ 1) ⊎ ((r.source ≡ s) × (bit r.row k ≡ 1)))
         go (yes q) =
             rw (q, with_row_same rows r.source row room small)
-            (Iff·trans (row_means k) (⊎_map (λ e. e) (λ e. (refl, e)), ⊎_map (λ e. e) (λ e. e.1)))
+            (Iff.trans (row_means k) (⊎_map (λ e. e) (λ e. (refl, e)), ⊎_map (λ e. e) (λ e. e.1)))
         go (no f) = rw (with_row_other rows r.source row room s f) (inl, ⊎_elim (λ e. e) (λ e. absurd (f (sym e.0))))
 
     sums_noted : Sums n (with_bit heard r.source) (with_row rows r.source row) (us ++ r ∷ [])

@@ -1,5 +1,4 @@
 -- `gossip::gossip_refusal` meets its contract. Assumes nothing.
-use borrow.Author.Rules.{rules}
 use Rattle.refusals.proofs.Checks.{checks}
 use Rattle.gossip.specs.Gossip.{gossip_refusal}
 use Rattle.gossip.proofs.gossip_refusal.Goals as goal

@@ -1,7 +1,6 @@
 -- `gossip::gossip_targets_excl` meets its contract. Assumes nothing.
 use mathlib.Core.Path.{refl, sym, ◌∙◌}
 use native.Mathlib.Omega.{arith}
-use borrow.Author.Rules.{rules}
 use Rattle.refusals.proofs.Outcomes.{outcomes, leaves_all}
 use Rattle.gossip.specs.Gossip.{gossip_of, exclusions_left}
 use Rattle.gossip.specs.RefusalLaws.{gossip_sound}

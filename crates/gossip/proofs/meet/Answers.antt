@@ -1,7 +1,6 @@
 -- `gossip::meet` meets its contract. Assumes nothing.
 use mathlib.Core.Path.{refl}
 use native.Mathlib.Omega.{arith}
-use borrow.Author.Rules.{rules}
 use Rattle.rows.specs.Row.{words}
 use Rattle.rows.specs.WordLaws.{value_lt}
 use Rattle.rows.proofs.Facts.{are_words}

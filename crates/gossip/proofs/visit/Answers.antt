@@ -1,5 +1,4 @@
 -- `gossip::visit` meets its contract. Assumes nothing.
-use borrow.Author.Rules.{rules}
 use Rattle.gossip.proofs.Steps.{visit_over, visit_dead, visit_live}
 use Rattle.gossip.proofs.visit.Goals as goal
 

@@ -1,5 +1,4 @@
 -- `gossip::walk` meets its contract. Assumes nothing.
-use borrow.Author.Rules.{rules}
 use Rattle.gossip.proofs.Steps.{ends_round, ends_source}
 use Rattle.gossip.proofs.walk.Goals as goal
 

@@ -1,14 +1,9 @@
 -- `gossip::walk_ring` meets its contract. Assumes nothing.
-use mathlib.Core.Path.{◌≡◌, refl, ap, ap₂, ◌∙◌}
-use mathlib.Core.Logic.{⊎_elim}
-use Prim.Native.Nat.{◌+◌, ◌-◌, ◌≤◌}
+use mathlib.Core.Path.{refl, ap₂, ◌∙◌}
 use borrow.Author.Rules.{rules}
-use mathlib.Core.List.{List}
-use Prim.Native.Nat.{ℕ}
-use lib.ListN.{length}
-use Rattle.rows.specs.Row.{row_of, row_in, rows_in}
-use Rattle.gossip.specs.Gossip.{walked, fresh}
-use Rattle.gossip.proofs.Steps.{place_below, place_inside, ring_to, ring_starts, ring_source, ring_other, ring_over, ring_done}
+use Rattle.rows.specs.Row.{rows_in}
+use Rattle.gossip.specs.Gossip.{walked}
+use Rattle.gossip.proofs.Steps.{ring_starts, ring_source, ring_other, ring_over, ring_done}
 use Rattle.gossip.proofs.walk_ring.Goals as goal
 use Rattle.gossip.proofs.walk_ring.Goals.{then-p-source, else-p-source}
 
@@ -26,7 +21,7 @@ loop-j-preserved c =
       search rules,
       c.if-p-source.auto.exclusions ∙ l.invariant.1,
       elim c.if-p-source.branch [
-        then-p-source w ↦ ring_other _ _ _ _ _ _ _ l.j _ l.invariant.2 _ w.if-p-source.true (ap₂ (λ v l. walked v (rows_in l)) w.so_far-is w.exclusions-is ∙ w.visit-so_far.ensures)
+        | then-p-source w ↦ ring_other _ _ _ _ _ _ _ l.j _ l.invariant.2 _ w.if-p-source.true (ap₂ (λ v l. walked v (rows_in l)) w.so_far-is w.exclusions-is ∙ w.visit-so_far.ensures)
         | else-p-source w ↦ ap₂ (λ v l. walked v (rows_in l)) w.so_far-is w.exclusions-is ∙ ring_source _ _ _ _ _ _ _ l.j _ l.invariant.2 w.if-p-source.false
       ],
     )

@@ -1,13 +1,9 @@
-use mathlib.Core.Path.{◌≡◌, refl, ap, ap₂, ◌∙◌}
-use mathlib.Core.Logic.{⊎_elim}
+use mathlib.Core.Path.{◌≡◌}
 use Prim.Native.Nat.{◌+◌, ◌-◌, ◌≤◌}
-use borrow.Author.Rules.{rules}
-use mathlib.Core.List.{List}
-use Prim.Native.Nat.{ℕ}
 use lib.ListN.{length}
 use Rattle.rows.specs.Row.{row_of, row_in, rows_in}
 use Rattle.gossip.specs.Gossip.{walked, fresh}
-use Rattle.gossip.proofs.Steps.{place_below, place_inside, ring_to, ring_starts, ring_source, ring_other, ring_over, ring_done}
+use Rattle.gossip.proofs.Steps.{ring_to}
 use Rattle.gossip.proofs.walk_ring.Given as goal
 
 abbrev pub invariant-loop-j : goal.invariant-loop-j

@@ -1,0 +1,21 @@
+-- `layout_text::runs` meets its contract. Assumes nothing.
+use mathlib.Core.Path.{refl}
+use native.Mathlib.Omega.{arith}
+use borrow.Author.Rules.{rules}
+use Rattle.layout_text.proofs.Rows.{runs_none, runs_more}
+use Rattle.layout_text.proofs.runs.Goals as goal
+
+pub loop-r-init : goal.loop-r-init
+loop-r-init c =
+    (refl, runs_none _ _ _ _)
+
+pub loop-r-preserved : goal.loop-r-preserved
+loop-r-preserved c =
+    let u = c in
+    let m = u in
+    let l = m.loop-r in
+    let st = m in
+    let a = st.args in (
+      search rules,
+      runs_more a.n a.total a.k l.words l.r st.requires.1 st.requires.2 l.invariant.1 (omega arith) m.loop-r-test.true m.run_from.ensures u.put.ensures,
+    )

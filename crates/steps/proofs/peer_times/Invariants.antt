@@ -1,0 +1,17 @@
+use Prim.Native.Nat.{ℕ, ◌-◌}
+use native.Mathlib.Omega.{arith}
+use borrow.Author.Rules.{rules}
+use lib.ListN.{length}
+use Rattle.lists.proofs.BelowLoops.{Filled, filled_none, filled_more, filled_done}
+use Rattle.times.specs.Times.{models_in}
+use Rattle.steps.specs.Steps.{peer_at, peer_time, peer_times}
+use Rattle.steps.proofs.Steps.{peer_inside, peer_load, peer_time_is}
+use Rattle.steps.proofs.peer_times.Given as goal
+
+abbrev pub invariant-loop-j : goal.invariant-loop-j
+invariant-loop-j l =
+    Filled (λ (k : ℕ). peer_time l.load l.inflight (models_in l.models) (peer_at l.own.0 k)) (length l.initial.times) l.times l.j
+
+abbrev pub decreases-loop-j : goal.decreases-loop-j
+decreases-loop-j l =
+    length l.initial.times - l.j
