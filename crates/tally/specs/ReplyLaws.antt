@@ -3,7 +3,8 @@
 use Rattle.std.specs.Prelude.{◌≡◌, refl, ◌↔◌, ◌⊎◌, Bool, ℕ, zero, suc, ◌+◌, ◌*◌, ◌^◌, ◌≤◌, ◌<◌, eqb, get_or, take, replicate}
 use Rattle.std.proofs.Common.{sym, ap, ◌∙◌, inl, inr, ⊎_elim, true≢false, lt_of_lt_of_le, arith, pow_mono, pow_pos}
 use Rattle.std.proofs.Math.Path.{subst}
-use Rattle.std.proofs.Math.Logic.{Iff.trans, ⊎_map}
+use Rattle.std.proofs.Math.Logic.{⊎_map}
+use mathlib.Core.Logic.Iff as Iff
 use Rattle.std.proofs.Math.Bool.{true, false, cond}
 use mathlib.Core.List.Memᴰ
 use mathlib.Core.List.{List, [], ◌∷◌, ◌++◌, append-nil, append_assoc, Memᴰ}
@@ -12,14 +13,13 @@ use Rattle.std.specs.Int.Bits.{bit_or, or_lt}
 use Rattle.std.proofs.Math.ListN.{length}
 use Rattle.std.proofs.Math.Pow.{pow-lt}
 use borrow.Author.Tests.{lt-ltb, eq-eqb, ne_eqb, eqb-false}
-use Rattle.lists.specs.All.{all, AllOf}
+use Rattle.lists.specs.All.{AllOf}
 use Rattle.lists.specs.AllLaws.{all_of_means, all_of_map}
 use Rattle.bitmap.specs.Mask.{bit, has_bit, with_bit}
 use Rattle.rows.specs.Row.{row_in, with_row}
 use Rattle.rows.specs.TableLaws.{no_row, first_row, first_rows_below, row_below, with_row_same, with_row_other, with_row_length}
 use Rattle.bitmap.specs.MaskLaws.{bit_none, or_means, with_means}
 use Rattle.bitmap.specs.Members.{many_map}
-use Rattle.refusals.specs.Limits.{is_row}
 use Rattle.refusals.specs.Outcome.{outcome, written}
 use Rattle.coverage.specs.Coverage.{RowsBelow, commits}
 use Rattle.coverage.specs.CoverageLaws.{Held, commits_means}

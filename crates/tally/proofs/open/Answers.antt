@@ -1,5 +1,4 @@
 -- `tally::open` meets its contract. Assumes nothing.
-use borrow.Author.Rules.{rules}
 use Rattle.tally.proofs.Entries.{unopened, opens}
 use Rattle.tally.proofs.open.Goals as goal
 

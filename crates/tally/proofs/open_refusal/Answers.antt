@@ -1,5 +1,4 @@
 -- `tally::open_refusal` meets its contract. Assumes nothing.
-use borrow.Author.Rules.{rules}
 use Rattle.refusals.proofs.Checks.{checks}
 use Rattle.tally.specs.Tally.{open_refusal}
 use Rattle.tally.proofs.open_refusal.Goals as goal

@@ -1,13 +1,10 @@
 -- `tally::reply` meets its contract. Assumes nothing.
-use mathlib.Core.Path.{◌≡◌, sym, ◌∙◌}
+use mathlib.Core.Path.{◌≡◌}
 use native.Mathlib.Omega.{arith}
 use borrow.Author.Rules.{rules}
 use lib.ListN.{length}
 use Rattle.tally.proofs.Entries.{refuses, repeats, source_below, rows_fit, counts_apart}
 use Rattle.tally.proofs.reply.Goals as goal
-
-long : (s : tie.Start) → length s.args.t.rows ≡ 64
-long s = search rules
 
 pub returns-then-no-ne0 : goal.returns-then-no-ne0
 returns-then-no-ne0 c =
@@ -19,8 +16,8 @@ returns-then-t c =
 
 pub note-requires : goal.note-requires
 note-requires c =
-    let i = c in
-    omega (arith, source_below _ _ _ i.reply_refusal-no.ensures i.if-no-ne0.false, long i)
+    let long : length c.args.t.rows ≡ 64 = search rules in
+    omega (arith, source_below _ _ _ c.reply_refusal-no.ensures c.if-no-ne0.false, long)
 
 pub with_replica-heard-requires : goal.with_replica-heard-requires
 with_replica-heard-requires c =
@@ -29,16 +26,9 @@ with_replica-heard-requires c =
 
 pub commits-commits-requires : goal.commits-commits-requires
 commits-commits-requires c =
-    let h = c in
-    let n = h in
-    let i = n in
-    rows_fit _ _ _ i.reply_refusal-no.ensures i.if-no-ne0.false h.with_replica-heard.ensures n.note.ensures (long i)
+    let long : length c.args.t.rows ≡ 64 = search rules in
+    rows_fit _ _ _ c.reply_refusal-no.ensures c.if-no-ne0.false c.with_replica-heard.ensures c.note.ensures long
 
 pub returns : goal.returns
 returns c =
-    let m = c in
-    let h = m in
-    let n = h in
-    let y = n in
-    let i = y in
-    counts_apart _ _ _ i.reply_refusal-no.ensures i.if-no-ne0.false h.with_replica-heard.ensures n.note.ensures _ y.if-t.false m.commits-commits.ensures c.said.ensures
+    counts_apart _ _ _ c.reply_refusal-no.ensures c.if-no-ne0.false c.with_replica-heard.ensures c.note.ensures _ c.if-t.false c.commits-commits.ensures c.said.ensures
