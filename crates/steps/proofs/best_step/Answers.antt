@@ -1,28 +1,18 @@
 -- `steps::best_step` meets its contract. Assumes nothing.
 use mathlib.Core.Path.{refl, sym, ap, ◌∙◌}
-use mathlib.Core.Logic.{inl, inr}
-use Prim.Native.Nat.{ℕ, ◌+◌, ◌-◌, ◌*◌, ◌^◌, ◌≤◌}
-use native.Mathlib.Nat.{div-le_self}
+use Prim.Native.Nat.{ℕ, ◌-◌}
 use native.Mathlib.Omega.{arith}
 use lib.Ieee.{nan}
-use borrow.Author.Rules.{rules}
-use borrow.Author.Tests.{not-true, not-false}
 use Rattle.lists.specs.First.{least_up_to}
-use Rattle.lists.proofs.FirstLoops.{Least, least_kept, least_moved, least_done}
+use Rattle.lists.proofs.FirstLoops.{least_kept, least_moved, least_done}
 use Rattle.floats.specs.Floats.{total_le}
 use Rattle.floats.specs.OrderLaws.{nan_above}
 use Rattle.times.specs.Times.{models_in}
 use Rattle.steps.specs.Steps.{time_of_step, best_step}
 use Rattle.steps.specs.StepLaws.{steps_all}
-use Rattle.steps.proofs.Steps.{load_of, no_number, shared_load, shared_load_le, timed}
+use Rattle.steps.proofs.Steps.{no_number, timed}
 use Rattle.steps.proofs.best_step.Goals as goal
-
--- the shares of a turn are within bounds
-most : (c : tie.In-loop invariant-loop decreases-loop)
-    → (let a = c.before.before.before.before.args in load_of a.d a.majority a.size * (c.before.loop.i + 1) ≤ 2 ^ 40)
-most c =
-    let s = c.before.before.before.before in
-    shared_load_le s.args.d s.args.majority s.args.size c.before.loop.i c.loop-test.true s.requires.0.3 s.requires.0.8
+use Rattle.steps.proofs.best_step.Goals.{then-not-total_le, else-not-total_le}
 
 pub loop-i-init : goal.loop-i-init
 unfolding best_step
@@ -42,8 +32,8 @@ loop-i-preserved c =
     timed a.d a.majority a.size l.loop-i.i a.n a.f a.own.0 a.inflight.now (models_in a.models.now) _ y.step_time-time.ensures in (
       omega (arith, w.loop-i-test.true),
       elim c.if-not-total_le.branch [
-        | inl m ↦ least_moved total_le f nan nan_above _ _ _ l.loop-i.invariant.1 _ _ v t.total_le.ensures _ _ (not-true _ m.0.taken) m.1 m.2
-        | inr m ↦ least_kept total_le f nan nan_above _ _ _ l.loop-i.invariant.1 _ _ v t.total_le.ensures _ _ (not-false _ m.if-not-total_le.false) m.1 m.2
+        | then-not-total_le m ↦ least_moved total_le f nan nan_above _ _ _ l.loop-i.invariant.1 _ _ v t.total_le.ensures _ _ m.if-not-total_le.true m.best-is m.least-is
+        | else-not-total_le m ↦ least_kept total_le f nan nan_above _ _ _ l.loop-i.invariant.1 _ _ v t.total_le.ensures _ _ m.if-not-total_le.false m.best-is m.least-is
       ],
     )
 

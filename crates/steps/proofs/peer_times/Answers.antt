@@ -1,12 +1,10 @@
 -- `steps::peer_times` meets its contract. Assumes nothing.
-use Prim.Native.Nat.{ℕ, ◌-◌}
+use Prim.Native.Nat.{ℕ}
 use native.Mathlib.Omega.{arith}
-use borrow.Author.Rules.{rules}
-use lib.ListN.{length}
-use Rattle.lists.proofs.BelowLoops.{Filled, filled_none, filled_more, filled_done}
+use Rattle.lists.proofs.BelowLoops.{filled_none, filled_more, filled_done}
 use Rattle.times.specs.Times.{models_in}
 use Rattle.steps.specs.Steps.{peer_at, peer_time, peer_times}
-use Rattle.steps.proofs.Steps.{peer_inside, peer_load, peer_time_is}
+use Rattle.steps.proofs.Steps.{peer_time_is}
 use Rattle.steps.proofs.peer_times.Goals as goal
 
 -- the peer at the loop's place is one of the sixteen

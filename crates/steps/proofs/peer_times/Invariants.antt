@@ -1,11 +1,8 @@
 use Prim.Native.Nat.{ℕ, ◌-◌}
-use native.Mathlib.Omega.{arith}
-use borrow.Author.Rules.{rules}
 use lib.ListN.{length}
-use Rattle.lists.proofs.BelowLoops.{Filled, filled_none, filled_more, filled_done}
+use Rattle.lists.proofs.BelowLoops.{Filled}
 use Rattle.times.specs.Times.{models_in}
-use Rattle.steps.specs.Steps.{peer_at, peer_time, peer_times}
-use Rattle.steps.proofs.Steps.{peer_inside, peer_load, peer_time_is}
+use Rattle.steps.specs.Steps.{peer_at, peer_time}
 use Rattle.steps.proofs.peer_times.Given as goal
 
 abbrev pub invariant-loop-j : goal.invariant-loop-j

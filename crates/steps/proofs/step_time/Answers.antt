@@ -1,18 +1,15 @@
 -- `steps::step_time` meets its contract. Assumes nothing.
 use Prim.Native.Nat.{◌-◌}
 use native.Mathlib.Omega.{arith}
-use borrow.Author.Rules.{rules}
 use borrow.Author.Tests.{lt-ltb}
 use lib.Ieee.{Float, of_bits}
 use lib.ListN.{replicate}
-use Rattle.lists.proofs.Lent.{lent, back, back_room, back_lent}
+use Rattle.lists.proofs.Lent.{lent, back, back_room}
 use Rattle.floats.specs.Floats.{plus_zero}
 use Rattle.times.specs.Times.{models_in}
 use Rattle.steps.specs.Steps.{step_time}
 use Rattle.steps.proofs.Steps.{step_is}
 use Rattle.steps.proofs.step_time.Goals as goal
-
--- the table has room for the peers when their times are in it
 
 pub returns-then-q-lt2 : goal.returns-then-q-lt2
 unfolding of_bits step_time
@@ -27,6 +24,8 @@ returns c =
     let s = p in
     let l = lent {A = Float} (s.args.n - 1) (replicate 16 plus_zero) (omega arith) in
     let b = back {A = Float} (s.args.n - 1) (replicate 16 plus_zero) (omega arith) p.peer_times.new.times p.peer_times.auto.times in
-    let e = back {A = Float} (s.args.n - 1) _ (room o) o.sort.new.a o.sort.auto.a in
+    -- the table has room for the peers when their times are in it
+    let room = back_room {A = Float} (s.args.n - 1) (replicate 16 plus_zero) (omega arith) p.peer_times.new.times p.peer_times.auto.times in
+    let e = back {A = Float} (s.args.n - 1) _ room o.sort.new.a o.sort.auto.a in
     step_is s.args.n s.args.own.0 s.args.q s.args.load _ s.args.inflight.now (models_in s.args.models.now)
     p.if-q-lt2.false l _ _ _ _ _ p.peer_times.ensures b o.sort.ensures e c.at_or_never.ensures
