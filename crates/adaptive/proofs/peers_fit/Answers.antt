@@ -1,0 +1,36 @@
+-- `adaptive::peers_fit` meets its contract. Assumes nothing.
+use mathlib.Core.Path.{ap, ◌∙◌}
+use Prim.Native.Nat.{◌-◌, ◌≤◌}
+use borrow.Author.Rules.{rules}
+use Rattle.refusals.specs.Limits.{is_overfull}
+use Rattle.refusals.proofs.Peers.{NoneOverfull, none_yet, none_more, overfull_found, all_fit}
+use Rattle.steps.specs.Steps.{in_flight}
+use Rattle.adaptive.proofs.peers_fit.Goals as goal
+
+pub loop-p-init : goal.loop-p-init
+loop-p-init c =
+    (search rules, none_yet _ (in_flight c.args.inflight.now))
+
+pub returns-then-is_overfull : goal.returns-then-is_overfull
+returns-then-is_overfull c =
+    let o = c in
+    let g = o in
+    let l = g in
+    let a = l.args in
+    overfull_found a.own.0 (in_flight a.inflight.now) a.n l.loop-p.p _ g.loop-p-test.true
+    (o.is_overfull.ensures ∙ ap (is_overfull a.own.0 l.loop-p.p) g.word_at.ensures) c.if-is_overfull.true
+
+pub loop-p-preserved : goal.loop-p-preserved
+loop-p-preserved c =
+    let o = c in
+    let g = o in
+    let l = g in
+    let a = l.args in (
+      search rules,
+      none_more a.own.0 (in_flight a.inflight.now) a.n l.loop-p.p _ l.loop-p.invariant.1
+          (o.is_overfull.ensures ∙ ap (is_overfull a.own.0 l.loop-p.p) g.word_at.ensures) c.if-is_overfull.false,
+    )
+
+pub returns : goal.returns
+returns c =
+    search all_fit

@@ -1,0 +1,14 @@
+-- `adaptive::pick_assignment_policy_rows` meets its contract. Assumes nothing.
+use mathlib.Core.Path.{ap, ◌∙◌}
+use mathlib.Core.Option.{Option}
+use Prim.Native.Nat.{ℕ}
+use borrow.Author.Rules.{rules}
+use Rattle.refusals.specs.Outcome.{Outcome}
+use Rattle.rows.specs.Row.{rows_in, spelled}
+use Rattle.adaptive.specs.Policy.{rows_of}
+use Rattle.adaptive.proofs.Entries.{policy_holds}
+use Rattle.adaptive.proofs.pick_assignment_policy_rows.Goals as goal
+
+pub rows_of-requires : goal.rows_of-requires
+rows_of-requires c =
+    policy_holds _ _ _ _ _ _ _ _ _ _ _ _ _ _ c.pick_assignment_policy-choice.ensures

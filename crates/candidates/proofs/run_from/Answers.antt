@@ -1,0 +1,35 @@
+-- `candidates::run_from` meets its contract. Assumes nothing.
+use mathlib.Core.Path.{ap}
+use Prim.Native.Nat.{suc, ◌+◌, ◌<◌}
+use native.Mathlib.Omega.{arith}
+use lib.Ieee.{Float, nan, le}
+use lib.ListN.{length}
+use Rattle.lists.specs.AllLaws.{inside_any}
+use Rattle.lists.proofs.BelowLoops.{run_on, run_stop, run_done}
+use Rattle.times.specs.Times.{never}
+use Rattle.candidates.proofs.Parts.{in_time_from}
+use Rattle.candidates.proofs.run_from.Goals as goal
+
+pub loop-k-preserved : goal.loop-k-preserved
+loop-k-preserved c =
+    let l = c in
+    let a = l.args in
+    let h : l.loop-k.k < suc a.d = omega arith in
+    let i : a.from + l.loop-k.k < length a.times.now = omega arith in (
+      omega arith,
+      run_on (in_time_from a.times.now a.t a.from) (suc a.d) l.loop-k.k _ h l.loop-k.invariant.1
+          (ap (λ (x : Float). le x a.t) (inside_any a.times.now (a.from + l.loop-k.k) nan never i)) c.if-times-from.true,
+    )
+
+pub returns-else-times-from : goal.returns-else-times-from
+returns-else-times-from c =
+    let l = c in
+    let a = l.args in
+    let h : l.loop-k.k < suc a.d = omega arith in
+    let i : a.from + l.loop-k.k < length a.times.now = omega arith in
+    run_stop (in_time_from a.times.now a.t a.from) (suc a.d) l.loop-k.k _ h l.loop-k.invariant.1
+    (ap (λ (x : Float). le x a.t) (inside_any a.times.now (a.from + l.loop-k.k) nan never i)) c.if-times-from.false
+
+pub returns : goal.returns
+returns c =
+    run_done _ _ _ (omega arith) c.loop-k.invariant.1
