@@ -18,7 +18,6 @@ use Rattle.bitmap.specs.Mask.{run}
 use Rattle.refusals.specs.Numbers.{TRIMMED}
 use Rattle.refusals.specs.Outcome.{Outcome, refused, accepted}
 use Rattle.refusals.proofs.Outcomes.{is_checked}
-use Rattle.refusals.specs.Limits.{most_shards}
 use Rattle.layout.specs.declared.TotalShards.{TotalShards}
 use Rattle.layout.specs.Layout.{Fit, bound, layout_commits, width_of, rows_of}
 use Rattle.layout.specs.LayoutLaws.{rows_length, rows_small}

@@ -1,5 +1,5 @@
 -- Plans (`pick_assignment`) and full copies (`full_copies`). Assumes nothing.
-use Rattle.std.specs.Prelude.{cond, List, [], ◌∷◌, ◌++◌, ℕ, eqb, Float, length, get_or, replicate}
+use Rattle.std.specs.Prelude.{cond, List, [], ◌∷◌, ◌++◌, ℕ, Float, length, get_or, replicate}
 use Rattle.std.proofs.Math.Option.{Option, none, some}
 use Rattle.bitmap.specs.Mask.{run}
 use Rattle.rows.specs.Row.{rows_in, spelled}

@@ -1,7 +1,6 @@
 -- `adaptive::best_shards` meets its contract. Assumes nothing.
 use mathlib.Core.Path.{ap, ◌∙◌}
 use native.Mathlib.Omega.{arith}
-use borrow.Author.Rules.{rules}
 use Rattle.bitmap.specs.Mask.{count}
 use Rattle.adaptive.specs.Policy.{best_shards}
 use Rattle.steps.proofs.Steps.{best_small, best_le}

@@ -1,7 +1,5 @@
 -- `adaptive::floor_of` meets its contract. Assumes nothing.
-use native.Mathlib.Omega.{arith}
-use borrow.Author.Rules.{rules}
-use Rattle.adaptive.proofs.Entries.{floors, floor_small}
+use Rattle.adaptive.proofs.Entries.{floors}
 use Rattle.adaptive.proofs.floor_of.Goals as goal
 
 pub returns-then-most-alive : goal.returns-then-most-alive

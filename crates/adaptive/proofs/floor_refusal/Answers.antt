@@ -1,8 +1,7 @@
 -- `adaptive::floor_refusal` meets its contract. Assumes nothing.
-use borrow.Author.Rules.{rules}
 use Rattle.refusals.proofs.Checks.{checks, some_majority}
 use Rattle.adaptive.specs.Floor.{floor_refusal}
-use Rattle.std.proofs.lemmas.Bool.{not_from_false, not_from_true}
+use Rattle.std.proofs.lemmas.Bool.{not_from_true}
 use Rattle.adaptive.proofs.floor_refusal.Goals as goal
 
 pub returns-then-not-is_population : goal.returns-then-not-is_population

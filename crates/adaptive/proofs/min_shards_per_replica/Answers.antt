@@ -1,7 +1,6 @@
 -- `adaptive::min_shards_per_replica` meets its contract. Assumes nothing.
 use mathlib.Core.Path.{sym, ap, ◌∙◌}
 use native.Mathlib.Omega.{arith}
-use borrow.Author.Rules.{rules}
 use Rattle.refusals.proofs.Outcomes.{outcomes, is_accepted}
 use Rattle.adaptive.specs.Floor.{floor_of, min_shards_of}
 use Rattle.adaptive.specs.RefusalLaws.{floor_sound}

@@ -1,8 +1,5 @@
-use mathlib.Core.Path.{ap, ◌∙◌}
 use Prim.Native.Nat.{◌-◌, ◌≤◌}
-use borrow.Author.Rules.{rules}
-use Rattle.refusals.specs.Limits.{is_overfull}
-use Rattle.refusals.proofs.Peers.{NoneOverfull, none_yet, none_more, overfull_found, all_fit}
+use Rattle.refusals.proofs.Peers.{NoneOverfull}
 use Rattle.steps.specs.Steps.{in_flight}
 use Rattle.adaptive.proofs.peers_fit.Given as goal
 

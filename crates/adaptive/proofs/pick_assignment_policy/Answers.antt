@@ -1,6 +1,5 @@
 -- `adaptive::pick_assignment_policy` meets its contract. Assumes nothing.
 use native.Mathlib.Omega.{arith}
-use borrow.Author.Rules.{rules}
 use Rattle.adaptive.proofs.Entries.{policy_refused, tested, unbalanced, counted, uncounted}
 use Rattle.std.proofs.lemmas.Bool.{not_from_false, not_from_true}
 use Rattle.adaptive.proofs.pick_assignment_policy.Goals as goal
@@ -16,7 +15,8 @@ returns-then-not-balanced c =
 pub best_shards-best-requires : goal.best_shards-best-requires
 best_shards-best-requires c =
     let i = c in
-    let s = tested _ _ _ _ _ _ _ _ _ _ _ _ _ i.policy_refusal-no.ensures i.if-no-ne0.false in record { n_nonzero = (
+    let s = tested _ _ _ _ _ _ _ _ _ _ _ _ _ i.policy_refusal-no.ensures i.if-no-ne0.false in record {
+      n_nonzero = (
         omega (arith, s.population),
         s.population.1,
         s.tolerance,
@@ -27,7 +27,9 @@ best_shards-best-requires c =
         s.multiple,
         s.small,
         s.initial_rows,
-      ); inflight_len = (s.a_word_each, s.a_model_each, s.in-flight) }
+      );
+      inflight_len = (s.a_word_each, s.a_model_each, s.in_flight_fits);
+    }
 
 pub floor_of-requires : goal.floor_of-requires
 floor_of-requires c =

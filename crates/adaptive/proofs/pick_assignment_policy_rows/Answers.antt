@@ -1,11 +1,4 @@
 -- `adaptive::pick_assignment_policy_rows` meets its contract. Assumes nothing.
-use mathlib.Core.Path.{ap, ◌∙◌}
-use mathlib.Core.Option.{Option}
-use Prim.Native.Nat.{ℕ}
-use borrow.Author.Rules.{rules}
-use Rattle.refusals.specs.Outcome.{Outcome}
-use Rattle.rows.specs.Row.{rows_in, spelled}
-use Rattle.adaptive.specs.Policy.{rows_of}
 use Rattle.adaptive.proofs.Entries.{policy_holds}
 use Rattle.adaptive.proofs.pick_assignment_policy_rows.Goals as goal
 

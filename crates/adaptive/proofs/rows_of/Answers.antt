@@ -1,8 +1,7 @@
 -- `adaptive::rows_of` meets its contract. Assumes nothing.
-use native.Mathlib.Omega.{arith}
 use borrow.Author.Rules.{rules}
 use Rattle.rows.specs.Row.{spelled}
-use Rattle.adaptive.proofs.Entries.{held, initial_taken, part_inside, part_small, part_taken}
+use Rattle.adaptive.proofs.Entries.{initial_taken, part_taken}
 use Rattle.adaptive.proofs.rows_of.Goals as goal
 
 pub returns-in-Refused : goal.returns-in-Refused
@@ -19,6 +18,6 @@ returns-in-Initial c =
 pub returns-in-Balanced : goal.returns-in-Balanced
 unfolding spelled
 returns-in-Balanced c =
-        let w = c in
+    let w = c in
     let s = w in
     part_taken _ _ _ _ s.args.initial.now s.args.table.now s.requires _ c.in-Balanced.is (λ i. (w.shared_slice_known-2-1.given i).fits) _ c.rows_from.ensures

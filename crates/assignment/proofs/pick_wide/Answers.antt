@@ -1,35 +1,36 @@
 -- `assignment::pick_wide` meets its contract. Assumes nothing.
 use mathlib.Core.Path.{refl, sym, ◌∙◌}
-use Prim.Native.Nat.{◌≤◌}
 use native.Mathlib.Omega.{arith}
-use borrow.Author.Rules.{rules}
 use lib.Ieee.{Float}
 use Rattle.lists.proofs.Lent.{lent}
 use Rattle.candidates.proofs.Parts.{begins}
 use Rattle.assignment.proofs.Parts.{tested, table_room}
-use Rattle.assignment.proofs.pick_wide.Statement.{statement}
-use Rattle.assignment.proofs.pick_wide.Tie as tie
+use Rattle.assignment.proofs.pick_wide.Goals as goal
 
-pub pick-wide-spec : {M : Type 1} → statement M
-pick-wide-spec =
-    tie.close
-    (tie.spec
-    (λ c. let s = c.before.before in let h = tested _ _ _ _ _ _ _ _ _ 0 (sym s.requires) refl in omega (arith, h.shards))
-    (λ c.
-    let s = c.before.before in
+pub overflow_add-m : goal.overflow_add-m
+overflow_add-m c =
+    let s = c in let h = tested _ _ _ _ _ _ _ _ _ 0 (sym s.requires) refl in omega (arith, h.shards)
+
+pub overflow_mul-m : goal.overflow_mul-m
+overflow_mul-m c =
+    let s = c in
     let h = table_room _ _ _ _ _ _ _ _ _ 0 (sym s.requires) refl 255 (omega (arith, (tested _ _ _ _ _ _ _ _ _ 0 (sym s.requires) refl).shards)) in
-    omega (arith, h))
-    (λ c.
-    let s = c.before.before in
+    omega (arith, h)
+
+pub slice_bounds-table-end : goal.slice_bounds-table-end
+slice_bounds-table-end c =
+    let s = c in
     let h = table_room _ _ _ _ _ _ _ _ _ 0 (sym s.requires) refl 255 (omega (arith, (tested _ _ _ _ _ _ _ _ _ 0 (sym s.requires) refl).shards)) in
-    h)
-    (λ c.
-    let s = c.before.before.before in
+    h
+
+pub slice_bounds-pick_in-end : goal.slice_bounds-pick_in-end
+slice_bounds-pick_in-end c =
+    let s = c in
     let h = table_room _ _ _ _ _ _ _ _ _ 0 (sym s.requires) refl 255 (omega (arith, (tested _ _ _ _ _ _ _ _ _ 0 (sym s.requires) refl).shards)) in
-    lent {A = Float} _ _ h)
-    (λ c κs.
-    let s = c.before.before.before.before in
+    lent {A = Float} _ _ h
+
+pub pick_in-requires : goal.pick_in-requires
+pick_in-requires c =
+    let s = c in
     let h = table_room _ _ _ _ _ _ _ _ _ 0 (sym s.requires) refl 255 (omega (arith, (tested _ _ _ _ _ _ _ _ _ 0 (sym s.requires) refl).shards)) in
-    (s.requires, sym (lent {A = Float} _ _ h) ∙ begins s.args.n s.args.d))
-    (λ c. search rules)
-    (λ c. c.before.before.before.pick-in.ensures))
+    (s.requires, sym (lent {A = Float} _ _ h) ∙ begins s.args.n s.args.d)
