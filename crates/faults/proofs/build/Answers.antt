@@ -1,12 +1,9 @@
 -- `faults::build` meets its contract. Assumes nothing.
-use mathlib.Core.Path.{◌≡◌, sym, subst, ◌∙◌}
-use mathlib.Core.Bool.{Bool, true}
+use mathlib.Core.Path.{◌≡◌, subst, ◌∙◌}
+use mathlib.Core.Bool.{Bool}
 use mathlib.Core.List.{List}
-use Prim.Native.Nat.{ℕ, ◌*◌, ◌^◌, ◌<◌, ◌≤◌}
-use borrow.Author.Rules.{rules}
+use Prim.Native.Nat.{ℕ, ◌^◌, ◌<◌}
 use lib.ListN.{length}
-use Rattle.lists.specs.All.{all}
-use Rattle.refusals.specs.Limits.{is_mask}
 use Rattle.marks.specs.Marks.{flagged}
 use Rattle.maximal.specs.Tables.{Flags}
 use Rattle.faults.specs.Family.{family_of}
@@ -16,12 +13,12 @@ use Rattle.faults.proofs.build.Goals as goal
 pub returns : goal.returns
 unfolding Flags
 returns c =
-    let v = c in
-    let s = v in
-    let a = s.args in
+    let a = c.args in
     let g : ℕ → Bool = family_of a.f a.domains.now a.known a.probs.now a.threshold in
-    let t : List ℕ = v.flags.new.table in
+    let t : List ℕ = c.flags.new.table in
     let h : (k : ℕ) → k < 2 ^ a.n → flagged t k ≡ g k =
-    subst (λ (x : ℕ). (k : ℕ) → k < 2 ^ x → flagged t k ≡ g k) s.requires.probs_len v.flags.ensures in
-    let r = c in
-    record { answer = r.list_of.ensures.answer ∙ answer_same (flagged t) g a.n h (length a.list.now); words = r.list_of.ensures.words ∙ words_same (flagged t) g a.n h a.list.now }
+    subst (λ (x : ℕ). (k : ℕ) → k < 2 ^ x → flagged t k ≡ g k) c.requires.probs_len c.flags.ensures in
+    record {
+      answer = c.list_of.ensures.answer ∙ answer_same (flagged t) g a.n h (length a.list.now);
+      words = c.list_of.ensures.words ∙ words_same (flagged t) g a.n h a.list.now;
+    }

@@ -4,7 +4,6 @@ use mathlib.Core.Bool.{Bool, false, ◌&&◌}
 use mathlib.Core.List.{List}
 use Prim.Native.Nat.{ℕ, ◌^◌}
 use native.Mathlib.Omega.{arith}
-use borrow.Author.Rules.{rules}
 use lib.Ieee.{of_bits}
 use lib.ListN.{length}
 use Rattle.floats.specs.Floats.{one}
@@ -16,42 +15,37 @@ use Rattle.faults.proofs.flags.Goals as goal
 
 pub mark_domains-requires : goal.mark_domains-requires
 mark_domains-requires c =
-    let e = c in
-    let s = e in
-    let a = s.args in
-    domains_below (length a.probs.now) _ a.domains.now (omega (arith, s.requires.probs_bound, e.exact.auto.table)) s.requires.domains_value
+    let a = c.args in
+    domains_below (length a.probs.now) _ a.domains.now (omega (arith, c.requires.probs_bound, c.exact.auto.table)) c.requires.domains_value
 
 pub mark_probable-requires : goal.mark_probable-requires
 unfolding of_bits
 mark_probable-requires c =
-    let d = c in
-    let e = d in
-    let s = e in record { probs_len_bound = s.requires.probs_len_bound; probs_bound = omega (arith, s.requires.probs_bound, d.mark_domains.auto.table, e.exact.auto.table); mask_bound = omega arith; fine = one_fine; probs_value = s.requires.probs_value c.if-known.true }
+    record {
+      probs_len_bound = c.requires.probs_len_bound;
+      probs_bound = omega (arith, c.requires.probs_bound, c.mark_domains.auto.table, c.exact.auto.table);
+      mask_bound = omega arith;
+      fine = one_fine;
+      probs_value = c.requires.probs_value c.if-known.true;
+    }
 
 pub returns-then-known : goal.returns-then-known
 unfolding of_bits
 returns-then-known c =
-    let m = c in
-    let d = m in
-    let e = d in
-    let s = e in
-    let a = s.args in
+    let a = c.args in
     let ps = a.probs.now in
-    let b : List ℕ = d.mark_domains.new.table in
-    flags-family (length ps) a.f a.domains.now a.known ps a.threshold e.exact.new.table b m.mark_probable.new.table
-    (omega (arith, s.requires.probs_bound, e.exact.auto.table)) e.exact.ensures d.mark_domains.ensures
-    (subst (λ (x : Bool). Marked (2 ^ length ps) (λ k. x && is_hit ps 0 0 one a.threshold k) b m.mark_probable.new.table)
-    (sym m.if-known.true) m.mark_probable.ensures)
+    let b : List ℕ = c.mark_domains.new.table in
+    flags-family (length ps) a.f a.domains.now a.known ps a.threshold c.exact.new.table b c.mark_probable.new.table
+    (omega (arith, c.requires.probs_bound, c.exact.auto.table)) c.exact.ensures c.mark_domains.ensures
+    (subst (λ (x : Bool). Marked (2 ^ length ps) (λ k. x && is_hit ps 0 0 one a.threshold k) b c.mark_probable.new.table)
+    (sym c.if-known.true) c.mark_probable.ensures)
 
 pub returns-else-known : goal.returns-else-known
 returns-else-known c =
-    let d = c in
-    let e = d in
-    let s = e in
-    let a = s.args in
+    let a = c.args in
     let ps = a.probs.now in
-    let b : List ℕ = d.mark_domains.new.table in
-    flags-family (length ps) a.f a.domains.now a.known ps a.threshold e.exact.new.table b b
-    (omega (arith, s.requires.probs_bound, e.exact.auto.table)) e.exact.ensures d.mark_domains.ensures
+    let b : List ℕ = c.mark_domains.new.table in
+    flags-family (length ps) a.f a.domains.now a.known ps a.threshold c.exact.new.table b b
+    (omega (arith, c.requires.probs_bound, c.exact.auto.table)) c.exact.ensures c.mark_domains.ensures
     (subst (λ (x : Bool). Marked (2 ^ length ps) (λ k. x && is_hit ps 0 0 one a.threshold k) b b)
     (sym c.if-known.false) (marked_none (2 ^ length ps) (λ k. false) b (λ j l. refl)))

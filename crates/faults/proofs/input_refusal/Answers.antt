@@ -1,6 +1,5 @@
 -- `faults::input_refusal` meets its contract. Assumes nothing.
-use borrow.Author.Rules.{rules}
-use Rattle.refusals.proofs.Checks.{checks, at_most_16}
+use Rattle.refusals.proofs.Checks.{at_most_16}
 use Rattle.faults.proofs.input_refusal.Goals as goal
 
 pub profile_refusal-requires : goal.profile_refusal-requires

@@ -1,19 +1,17 @@
--- `faults::mark_domains` meets its contract. The loop's invariant: the domains before the place i are flagged. Assumes nothing.
-use mathlib.Core.Path.{◌≡◌, refl, subst, ◌∙◌}
+-- `faults::mark_domains` meets its contract. Assumes nothing.
+use mathlib.Core.Path.{◌≡◌, refl, ◌∙◌}
 use mathlib.Core.List.{List}
 use mathlib.Core.Bool.{true, ◌&&◌}
-use Prim.Native.Nat.{ℕ, ◌-◌, ◌*◌, ◌<◌, ◌≤◌}
+use Prim.Native.Nat.{ℕ, ◌*◌, ◌<◌}
 use native.Mathlib.Omega.{arith}
 use borrow.Author.Rules.{rules}
 use borrow.Author.Tests.{ltb-true}
 use lib.Dec.{eqb}
 use lib.ListN.{length, get_or, take}
-use lib.Seq.{take_all}
 use Rattle.lists.specs.All.{all}
 use Rattle.lists.specs.AllLaws.{all_means}
 use Rattle.refusals.specs.Limits.{is_under}
 use Rattle.faults.specs.Family.{is_among}
-use Rattle.faults.specs.Marks.{Marked}
 use Rattle.faults.proofs.Marks.{marked-then, marked_one, marked_none, among_more}
 use Rattle.faults.proofs.mark_domains.Goals as goal
 
@@ -28,18 +26,16 @@ loop-i-init c =
 
 pub loop-i-preserved : goal.loop-i-preserved
 loop-i-preserved c =
-    let p = c in
-    let l = p in
-    let s = l in
-    let a = s.args in
+    let a = c.args in
+    let l = c.loop-i in
     let ds : List ℕ = a.domains.now in
-    let d : ℕ = get_or ds l.loop-i.i 0 in
+    let d : ℕ = get_or ds l.i 0 in
     let size : ℕ = 64 * length a.table.now in
-    let h = p.loop-i-test.true in
-    let i = inside size l.loop-i.i ds s.requires h in (
+    let h = c.loop-i-test.true in
+    let i = inside size l.i ds c.requires h in (
       search rules,
-      p.put.auto.table ∙ l.loop-i.invariant.1,
-      marked-then size (is_among (take l.loop-i.i ds)) (λ m. eqb m d && true) _ a.table.now l.loop-i.table _ l.loop-i.invariant.2
-          (marked_one size d true l.loop-i.table _ (omega (arith, i, l.loop-i.invariant.1)) p.put.ensures refl)
-          (λ m. among_more ds l.loop-i.i m h),
+      c.put.auto.table ∙ l.invariant.1,
+      marked-then size (is_among (take l.i ds)) (λ m. eqb m d && true) _ a.table.now l.table _ l.invariant.2
+          (marked_one size d true l.table _ (omega (arith, i, l.invariant.1)) c.put.ensures refl)
+          (λ m. among_more ds l.i m h),
     )
