@@ -4,22 +4,27 @@
 
 mod replay; // replay.rt: whether an entry answers a line as it says
 
-fn main() {
-    file(replay::PROFILE, b"profile");
-    file(replay::UNRELIABILITY, b"unreliability");
-    file(replay::FAULTS, b"faults");
-    file(replay::COVERS, b"covers");
-    file(replay::SURVIVED, b"survived");
-    file(replay::LAYOUT, b"layout");
-    file(replay::COMMITS, b"commits");
-    file(replay::PLAN, b"plan");
-    file(replay::FULL, b"full");
-    file(replay::FLOOR, b"floor");
-    file(replay::POLICY, b"policy");
-    file(replay::INIT, b"init");
-    file(replay::BASE_INIT, b"base_init");
-    file(replay::GOSSIP, b"gossip");
-    file(replay::TALLY, b"tally");
+use std::fs::File;
+use std::io::{Read, Result};
+use std::rt::Files;
+
+fn main(rt: HostRuntime) -> Result<()> {
+    file(&rt, replay::PROFILE, "profile")?;
+    file(&rt, replay::UNRELIABILITY, "unreliability")?;
+    file(&rt, replay::FAULTS, "faults")?;
+    file(&rt, replay::COVERS, "covers")?;
+    file(&rt, replay::SURVIVED, "survived")?;
+    file(&rt, replay::LAYOUT, "layout")?;
+    file(&rt, replay::COMMITS, "commits")?;
+    file(&rt, replay::PLAN, "plan")?;
+    file(&rt, replay::FULL, "full")?;
+    file(&rt, replay::FLOOR, "floor")?;
+    file(&rt, replay::POLICY, "policy")?;
+    file(&rt, replay::INIT, "init")?;
+    file(&rt, replay::BASE_INIT, "base_init")?;
+    file(&rt, replay::GOSSIP, "gossip")?;
+    file(&rt, replay::TALLY, "tally")?;
+    Ok(())
 }
 
 // What became of some lines, and whether more may follow.
@@ -30,15 +35,17 @@ struct Progress {
     more: bool,
 }
 
-fn file(entry: u8, name: &[u8]) {
-    io::write_all(1, name);
-    let fd = os::open_read(name);
-    if fd < 0 {
-        io::write_all(1, b": no such file\n");
-        return;
+fn file(rt: &(impl Files + Alloc), entry: u8, name: &str) -> Result<()> {
+    io::write_all(1, name.as_bytes());
+    match File::open(rt, name) {
+        Err(_) => {
+            io::write_all(1, b": no such file\n");
+        }
+        Ok(mut file) => {
+            report(blocks(rt, entry, &mut file)?);
+        }
     }
-    report(blocks(entry, fd));
-    libc::close(fd);
+    Ok(())
 }
 
 // The lines are counted from 1, without the empty ones that pad a block.
@@ -59,36 +66,36 @@ fn report(r: Progress) {
 }
 
 // A file, block by block. A proved loop has to end: no file here has as many blocks.
-fn blocks(entry: u8, fd: i32) -> Progress {
+fn blocks(rt: &impl Alloc, entry: u8, file: &mut impl Read) -> Result<Progress> {
     let mut turns: u64 = 100;
     let mut count: u64 = 0;
     while turns > 0 {
         turns -= 1;
-        let b = next_block(entry, fd);
+        let b = next_block(rt, entry, file)?;
         count = std::num::wrapping_add_u64(count, b.count);
         if b.differs || !b.more {
-            return Progress {
+            return Ok(Progress {
                 count: count,
                 differs: b.differs,
                 more: false,
-            };
+            });
         }
     }
-    Progress {
+    Ok(Progress {
         count: count,
         differs: false,
         more: true,
-    }
+    })
 }
 
 // A block of the file, in which no line crosses the end of one.
-fn next_block(entry: u8, fd: i32) -> Progress {
-    let mut buf = io::large_buffer();
-    let n = io::read_full(fd, &mut buf);
-    let r = replay::replay(entry, &buf[..n]);
-    Progress {
+fn next_block(rt: &impl Alloc, entry: u8, file: &mut impl Read) -> Result<Progress> {
+    let mut block = Vec::new(rt.alloc());
+    let n = file.take(65536).read_to_end(&mut block)?;
+    let r = replay::replay(entry, &block);
+    Ok(Progress {
         count: r.count,
         differs: r.differs,
         more: n == 65536,
-    }
+    })
 }

@@ -6,49 +6,63 @@
 mod plan;
 mod print;
 
-fn main() {
-    let count = os::arg_count();
-    if count < 2 {
-        describe(0);
-        return;
+use std::env::FillError;
+use std::fs::File;
+use std::io::{Read, Result};
+use std::rt::{Env, Files};
+
+fn main(rt: HostRuntime) -> Result<()> {
+    if !named(&rt, 1)? {
+        return describe(&rt, rt.reader());
     }
-    let mut i: usize = 1;
-    while i < count {
-        named(i);
-        i += 1;
+    for i in 2..usize::MAX {
+        if !named(&rt, i)? {
+            break;
+        }
     }
+    Ok(())
 }
 
-// The site of an argument.
-fn named(i: usize) {
+// The site of an argument, and whether there is one. The name of no file is longer than the buffer.
+fn named(rt: &(impl Env + Files + Input + Alloc), i: usize) -> Result<bool> {
     let mut path = io::buffer();
-    let k = os::arg(i, &mut path);
-    of_file(&path[..k]);
+    match rt.arg(i, &mut path) {
+        Err(FillError::NotPresent) => return Ok(false),
+        Err(FillError::TooLong) => of_file(rt, b"")?,
+        Ok(k) => of_file(rt, &path[..k])?,
+    }
+    Ok(true)
 }
 
-fn of_file(path: &[u8]) {
+fn of_file(rt: &(impl Files + Input + Alloc), path: &[u8]) -> Result<()> {
     io::write_all(1, b"== ");
     io::write_all(1, path);
     io::write_all(1, b"\n");
     if numerals::same(path, b"-") {
-        describe(0);
-        return;
+        return describe(rt, rt.reader());
     }
-    let fd = os::open_read(path);
-    if fd < 0 {
-        io::write_all(1, b"no such file\n");
-        return;
+    match opened(rt, path) {
+        None => {
+            io::write_all(1, b"no such file\n");
+            Ok(())
+        }
+        Some(file) => describe(rt, file),
     }
-    describe(fd);
-    libc::close(fd);
 }
 
-fn describe(fd: i32) {
-    let mut buf = io::large_buffer();
-    let k = io::read_full(fd, &mut buf);
+// The file of this name, if it can be opened. A name that is not UTF-8 is that of no file which can.
+fn opened<R: Files>(rt: &R, path: &[u8]) -> Option<R::File> {
+    let name = str::from_utf8(path).ok()?;
+    File::open(rt, name).ok()
+}
+
+fn describe(rt: &impl Alloc, from: impl Read + Drop) -> Result<()> {
+    let mut text = Vec::new(rt.alloc());
+    let k = from.take(65536).read_to_end(&mut text)?;
     if k == 65536 {
         io::write_all(1, b"the description is longer than 65535 bytes\n");
-        return;
+        return Ok(());
     }
-    plan::plan(&buf[..k]);
+    plan::plan(&text);
+    Ok(())
 }
