@@ -1,0 +1,8 @@
+-- `c_types::opening` meets its contract. Assumes nothing.
+use Rattle.c_types.specs.CTypes.{to_opening}
+use Rattle.c_types.proofs.opening.Goals as goal
+
+pub returns : goal.returns
+unfolding to_opening
+returns c =
+    let u = c in rw (u.to_tally-u.ensures, u.word_of.ensures)
