@@ -1,9 +1,10 @@
 -- `faults::mark_probable` meets its contract: the recursion on the replicas not yet tried, whose number falls at each call. Assumes nothing.
-use Rattle.std.proofs.Common.{◌≡◌, refl, ◌∙◌, ℕ, ◌+◌, ◌*◌, ◌^◌, ◌<◌, ◌≤◌, ◌&&◌, ◌||◌, List, eqb, length, get_or, arith}
+use Rattle.std.proofs.Common.{◌≡◌, refl, ◌∙◌, ℕ, ◌+◌, ◌*◌, ◌^◌, ◌<◌, ◌≤◌, ◌&&◌, ◌||◌, List, true, eqb, length, get_or, arith}
 use Rattle.std.specs.Float.{binary64}
 use Rattle.std.specs.Float.Ieee.{Float, nan, mul, le}
 use mathlib.Core.Bool.{and-false}
 use lib.Pow.{pow_mono}
+use Rattle.lists.specs.All.{all}
 use Rattle.lists.specs.AllLaws.{all_means}
 use Rattle.floats.specs.Floats.{is_probability, Fine}
 use Rattle.floats.proofs.Shrink.{fine_mul}
@@ -13,23 +14,43 @@ use Rattle.faults.proofs.Marks.{room, hit-step, hit_none, marked-then, marked_on
 use Rattle.faults.proofs.Prune.{hit-pruned}
 use Rattle.faults.proofs.+mark_probable.Goals as goal
 
+-- the product with the probability at `next`
+fine_next : (ps : List Float) (next : ℕ) (p : Float) → Fine p → all is_probability ps ≡ true → next < length ps
+    → Fine (mul binary64 p (get_or ps next nan))
+fine_next ps next p f e h = fine_mul p (get_or ps next nan) f ((all_means is_probability nan ps).0 e next h)
+
+-- the set with `next` has a bit in the table
 pub put-requires : goal.put-requires
 put-requires t c =
     let a = c.args in
-    let r = room (64 * length a.table.now) (length a.probs.now) a.next a.mask c.requires.probs_len_bound c.requires.probs_bound c.if-next-probs.true c.requires.mask_bound in
+    let r =
+    room (64 * length a.table.now) (length a.probs.now) a.next a.mask c.requires.probs_len_bound c.requires.probs_bound
+    c.if-next-probs.true c.requires.mask_bound in
     rw r.exact (omega (arith, r.inside, c.mark_probable.auto.table))
 
 pub mark_probable-requires-then-threshold-q : goal.mark_probable-requires-then-threshold-q
 mark_probable-requires-then-threshold-q t c =
     let a = c.args in
-    let r = room (64 * length a.table.now) (length a.probs.now) a.next a.mask c.requires.probs_len_bound c.requires.probs_bound c.if-next-probs.true c.requires.mask_bound in
-    let fine = fine_mul a.p (get_or a.probs.now a.next nan) c.requires.fine ((all_means is_probability nan a.probs.now).0 c.requires.probs_value a.next c.if-next-probs.true) in
-    (omega arith, (c.requires.probs_len_bound, (omega (arith, c.requires.probs_bound, c.put.auto.table, c.mark_probable.auto.table), (rw r.exact r.more, (fine, c.requires.probs_value)))))
+    let r =
+    room (64 * length a.table.now) (length a.probs.now) a.next a.mask c.requires.probs_len_bound c.requires.probs_bound
+    c.if-next-probs.true c.requires.mask_bound in
+    let f = fine_next a.probs.now a.next a.p c.requires.fine c.requires.probs_value c.if-next-probs.true in (
+      omega arith,
+      (
+        c.requires.probs_len_bound,
+        (
+          omega (arith, c.requires.probs_bound, c.put.auto.table, c.mark_probable.auto.table),
+          (rw r.exact r.more, (f, c.requires.probs_value)),
+        ),
+      ),
+    )
 
 pub returns-then-threshold-q : goal.returns-then-threshold-q
 returns-then-threshold-q t c =
     let a = c.args in
-    let r = room (64 * length a.table.now) (length a.probs.now) a.next a.mask c.requires.probs_len_bound c.requires.probs_bound c.if-next-probs.true c.requires.mask_bound in
+    let r =
+    room (64 * length a.table.now) (length a.probs.now) a.next a.mask c.requires.probs_len_bound c.requires.probs_bound
+    c.if-next-probs.true c.requires.mask_bound in
     let ps : List Float = a.probs.now in
     let size : ℕ = 2 ^ length ps in
     let m : ℕ = a.mask + 2 ^ a.next in
@@ -53,11 +74,12 @@ returns-else-threshold-q t c =
     let a = c.args in
     let ps : List Float = a.probs.now in
     let q : Float = mul binary64 a.p (get_or ps a.next nan) in
-    let fine : Fine q = fine_mul a.p (get_or ps a.next nan) c.requires.fine ((all_means is_probability nan ps).0 c.requires.probs_value a.next c.if-next-probs.true) in
+    let f : Fine q = fine_next ps a.next a.p c.requires.fine c.requires.probs_value c.if-next-probs.true in
     let n = hit-pruned ps (a.next + 1) (a.mask + 2 ^ a.next) q a.threshold in
-    marked_same (2 ^ length ps) (is_hit ps (a.next + 1) a.mask a.p a.threshold) (is_hit ps a.next a.mask a.p a.threshold) a.table.now c.mark_probable.new.table c.mark_probable.ensures
+    marked_same (2 ^ length ps) (is_hit ps (a.next + 1) a.mask a.p a.threshold) (is_hit ps a.next a.mask a.p a.threshold)
+    a.table.now c.mark_probable.new.table c.mark_probable.ensures
     (λ i. hit-step ps a.next a.mask a.p a.threshold nan i c.if-next-probs.true c.requires.mask_bound
-    ∙ rw (n i c.requires.probs_value fine c.if-threshold-q.false, c.if-threshold-q.false, and-false))
+    ∙ rw (n i c.requires.probs_value f c.if-threshold-q.false, c.if-threshold-q.false, and-false))
 
 pub returns-else-next-probs : goal.returns-else-next-probs
 returns-else-next-probs t c =
