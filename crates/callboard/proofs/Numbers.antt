@@ -1,11 +1,11 @@
 -- The numbers that the code asks for, one after another, are the first of the lists of cases. Assumes nothing.
 use mathlib.Core.Path.{◌≡◌, refl, sym, ap, ◌∙◌}
-use mathlib.Core.Bool.{Bool, true, false, not, cond, ◌&&◌, and-eq-true_iff}
+use mathlib.Core.Bool.{Bool, true, false, not, cond, and-eq-true_iff}
 use mathlib.Core.List.{List, [], ◌∷◌}
 use mathlib.Core.Option.{Option}
 use Prim.Native.Nat.{ℕ, zero, suc, ◌<◌}
 use native.Mathlib.Omega.{arith}
-use lib.Dec.{ltb, eqb}
+use lib.Dec.{ltb}
 use lib.Ieee.{Float}
 use lib.ListN.{length}
 use borrow.Author.Tests.{lt-leb, ltb-true, ne_eqb}
@@ -19,7 +19,7 @@ use Rattle.layout.specs.declared.TotalShards.{TotalShards}
 use Rattle.assignment.specs.Plans.{pick_input_cases, pick_table_cases, pick_refusal}
 use Rattle.adaptive.specs.Policy.{policy_refusal, policy_of}
 use Rattle.c_types.specs.CTypes.{is_set}
-use Rattle.c_types.specs.Tables.{is_records, from_peers}
+use Rattle.c_types.specs.Tables.{from_peers}
 use Rattle.callboard.specs.Interface.{heard_cases, plan_cases, policy_in}
 use Rattle.callboard.specs.InterfaceLaws.{plan_number, entry_number, choice_number}
 use Rattle.callboard.specs.Tests.{is_past, plan_tables, fitting_of}

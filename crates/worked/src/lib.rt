@@ -1,3 +1,2 @@
 // The site sheet's starred lines. A table and a statement over its rows: no code.
 #![tactic(auto)]
-

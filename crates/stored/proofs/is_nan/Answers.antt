@@ -1,0 +1,14 @@
+-- `stored::is_nan` meets its contract. Assumes nothing.
+use Rattle.std.proofs.Common.{eq-eqb, ne_eqb}
+use lib.Ieee.{nan_bits}
+use Rattle.stored.proofs.is_nan.Goals as goal
+
+pub returns-then-bits-ne2047 : goal.returns-then-bits-ne2047
+unfolding nan_bits
+returns-then-bits-ne2047 c =
+    rw (ne_eqb _ _ c.if-bits-ne2047.true)
+
+pub returns : goal.returns
+unfolding nan_bits
+returns c =
+    rw (eq-eqb _ _ c.if-bits-ne2047.false)
