@@ -1,5 +1,5 @@
 // Replays the stored answers of the Rust: a file for each entry. Prints how many lines were answered as they say, or the first that was
-// not.
+// not. A read that fails ends it with that error.
 #![tactic(auto)]
 
 mod replay; // replay.rt: whether an entry answers a line as it says

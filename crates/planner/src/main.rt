@@ -1,6 +1,6 @@
 // Plans for the site that standard input describes (crates/site has the form of a description): prints the sets of replicas whose failure
 // must be survived, then the plan, or none and the full copies, or what is wrong and at which line. Given the names of files, it plans for
-// each of them in turn; `-` is standard input.
+// each of them in turn; `-` is standard input. A read that fails ends it with that error.
 #![tactic(auto)]
 
 mod plan;
@@ -23,7 +23,7 @@ fn main(rt: HostRuntime) -> Result<()> {
     Ok(())
 }
 
-// The site of an argument, and whether there is one. The name of no file is longer than the buffer.
+// The site of an argument, and whether there is one. A name that is longer than the buffer is no file's, and is not printed.
 fn named(rt: &(impl Env + Files + Input + Alloc), i: usize) -> Result<bool> {
     let mut path = io::buffer();
     match rt.arg(i, &mut path) {
@@ -50,7 +50,7 @@ fn of_file(rt: &(impl Files + Input + Alloc), path: &[u8]) -> Result<()> {
     }
 }
 
-// The file of this name, if it can be opened. A name that is not UTF-8 is that of no file which can.
+// The file of this name, if it can be opened: std opens none whose name is not UTF-8.
 fn opened<R: Files>(rt: &R, path: &[u8]) -> Option<R::File> {
     let name = str::from_utf8(path).ok()?;
     File::open(rt, name).ok()
