@@ -17,15 +17,15 @@ use Rattle.refusals.specs.Outcome.{Outcome, refused, accepted}
 use Rattle.refusals.proofs.Outcomes.{is_refused, is_accepted}
 use Rattle.bitmap.specs.Mask.{count}
 use Rattle.rows.specs.Row.{rows_in, spelled}
-use Rattle.rows.specs.WordLaws.{Words}
-use Rattle.rows.specs.TableLaws.{rows_spelled, part_spelled}
+use Rattle.rows.proofs.WordLaws.{Words}
+use Rattle.rows.proofs.TableLaws.{rows_spelled, part_spelled}
 use Rattle.refusals.specs.Limits.{most_shards}
 use Rattle.adaptive.specs.declared.Policy.{Policy}
 use Rattle.adaptive.specs.declared.Policy.TheVariants.{Initial, Balanced}
 use Rattle.adaptive.specs.Floor.{floor_of}
 use Rattle.adaptive.specs.Policy.{is_balanced_table, has_count, policy_refusal, best_shards, chosen, policy_of, rows_of, Holds}
-use Rattle.adaptive.specs.RefusalLaws.{PolicySound, policy_sound}
-use Rattle.adaptive.specs.PolicyLaws.{rows_inside, initial_means, count_held}
+use Rattle.adaptive.proofs.RefusalLaws.{PolicySound, policy_sound}
+use Rattle.adaptive.proofs.PolicyLaws.{rows_inside, initial_means, count_held}
 
 -- ---- the number of the first of some cases that holds, or what the cases after them give
 abbrev pub onwards : List Case → ℕ → ℕ

@@ -16,7 +16,7 @@ use Rattle.refusals.specs.Outcome.{Outcome, refused, accepted}
 use Rattle.refusals.specs.Limits.{peers_fit, is_population, is_shards, is_quorum}
 use Rattle.times.specs.declared.PerfModel.{PerfModel}
 use Rattle.times.specs.Times.{predict_of, models_in}
-use Rattle.times.specs.TimeLaws.{numbers_of}
+use Rattle.times.proofs.TimeLaws.{numbers_of}
 use Rattle.times.proofs.Worked.{one, two, ten, model}
 use Rattle.adaptive.specs.Floor.{floor_of, floor_refusal, min_shards_of}
 use Rattle.steps.specs.Steps.{still, peer_times, step_time, time_of_step, best_step}

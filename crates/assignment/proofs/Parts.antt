@@ -12,7 +12,7 @@ use lib.ListN.{length, replicate, length-replicate, replicate-append-replicate}
 use borrow.Author.Tests.{not-true, not-false}
 use Rattle.lists.specs.Below.{each_below, front}
 use Rattle.rows.specs.Row.{rows_in, spelled}
-use Rattle.rows.specs.TableLaws.{spelled_length, spelled_rows}
+use Rattle.rows.proofs.TableLaws.{spelled_length, spelled_rows}
 use Rattle.lists.proofs.BelowLoops.{front_all}
 use Rattle.bitmap.specs.Mask.{run}
 use Rattle.refusals.specs.Numbers.{TRIMMED}
@@ -20,7 +20,7 @@ use Rattle.refusals.specs.Outcome.{Outcome, refused, accepted}
 use Rattle.refusals.proofs.Outcomes.{is_checked}
 use Rattle.layout.specs.declared.TotalShards.{TotalShards}
 use Rattle.layout.specs.Layout.{Fit, bound, layout_commits, width_of, rows_of}
-use Rattle.layout.specs.LayoutLaws.{rows_length, rows_small}
+use Rattle.layout.proofs.LayoutLaws.{rows_length, rows_small}
 use Rattle.trimming.specs.Order.{trim_order}
 use Rattle.trimming.specs.Trimming.{trimmed}
 use Rattle.times.specs.declared.PeerRecord.{PeerRecord}
@@ -28,7 +28,7 @@ use Rattle.times.specs.Times.{shard_length, times_of}
 use Rattle.candidates.proofs.Parts.{begins}
 use Rattle.candidates.specs.Search.{answered_at, loads_at, first_time}
 use Rattle.assignment.specs.Plans.{Plan, loads_for, laid_out, plan_at, plan_of, planned, pick_refusal, pick_of, copies_refusal, copies_written}
-use Rattle.assignment.specs.PlanLaws.{Sound, pick_sound, copies_sound}
+use Rattle.assignment.proofs.PlanLaws.{Sound, pick_sound, copies_sound}
 
 -- ---- `lay_out`
 module _ (n quorum d : ℕ) (total : TotalShards) (faults : List ℕ) (answered : ℕ) (t : Float) (loads rows : List ℕ) {r : Bool} (e : r ≡ layout_commits n quorum d total answered faults loads) where

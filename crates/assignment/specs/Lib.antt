@@ -1,3 +1,2 @@
 -- Plans, and the full-copy fallback.
 pub mod Plans
-pub mod PlanLaws

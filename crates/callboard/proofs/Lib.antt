@@ -2,3 +2,4 @@
 pub mod Numbers
 pub mod Flat
 pub mod Rows
+pub mod InterfaceLaws

@@ -21,7 +21,7 @@ use Rattle.adaptive.specs.Policy.{policy_refusal, policy_of}
 use Rattle.c_types.specs.CTypes.{is_set}
 use Rattle.c_types.specs.Tables.{from_peers}
 use Rattle.callboard.specs.Interface.{heard_cases, plan_cases, policy_in}
-use Rattle.callboard.specs.InterfaceLaws.{plan_number, entry_number, choice_number}
+use Rattle.callboard.proofs.InterfaceLaws.{plan_number, entry_number, choice_number}
 use Rattle.callboard.specs.Tests.{is_past, plan_tables, fitting_of}
 
 -- an input that is refused is refused once

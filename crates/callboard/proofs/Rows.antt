@@ -13,7 +13,7 @@ use Rattle.refusals.specs.Outcome.{Outcome, refused, accepted, and_then}
 use Rattle.refusals.specs.Limits.{is_table}
 use Rattle.rows.specs.Row.{rows_in, spelled}
 use Rattle.adaptive.specs.Policy.{policy_refusal, policy_of, rows_of, Holds}
-use Rattle.adaptive.specs.PolicyLaws.{choice_means, initial_means, words_fit}
+use Rattle.adaptive.proofs.PolicyLaws.{choice_means, initial_means, words_fit}
 use Rattle.adaptive.proofs.Entries.{policy_holds}
 use Rattle.c_types.specs.CTypes.{is_set}
 use Rattle.callboard.specs.Interface.{policy_in, copied, rows_left}

@@ -1,4 +1,3 @@
 -- What the C interface adds to the entries: the tables that it lends by replica.
 pub mod Interface
-pub mod InterfaceLaws
 pub mod Tests

@@ -1,2 +1,3 @@
 -- How the code comes to what the definitions say.
 pub mod Parts
+pub mod SearchLaws

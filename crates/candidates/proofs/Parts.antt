@@ -23,10 +23,10 @@ use Rattle.floats.specs.Floats.{is_finite, total_le, is_same, precedes}
 use Rattle.floats.specs.OrderLaws.{total, trans, same_means}
 use Rattle.floats.specs.FirstLaws.{Fits, first_is_least, taken_means}
 use Rattle.times.specs.Times.{never}
-use Rattle.times.specs.TimeLaws.{place_within}
+use Rattle.times.proofs.TimeLaws.{place_within}
 use Rattle.candidates.specs.Search.{run_at, answers, load_at, candidates}
 use Rattle.candidates.specs.Repeats.{repeats_at, is_repeat}
-use Rattle.candidates.specs.SearchLaws.{peer_run}
+use Rattle.candidates.proofs.SearchLaws.{peer_run}
 
 -- ---- `run_at`: the place where a peer's times begin
 pub begins : (p d : ℕ) → p * (d + 1) ≡ p * suc d

@@ -5,9 +5,9 @@ use Prim.Native.Nat.{ℕ, ◌*◌, ◌≤◌}
 use native.Mathlib.Omega.{arith}
 use lib.ListN.{length}
 use Rattle.rows.specs.Row.{row_in}
-use Rattle.rows.specs.TableLaws.{row_below}
+use Rattle.rows.proofs.TableLaws.{row_below}
 use Rattle.coverage.specs.Coverage.{RowsBelow, covers_refusal, survived_refusal}
-use Rattle.coverage.specs.RefusalLaws.{covers_sound, survived_fit}
+use Rattle.coverage.proofs.RefusalLaws.{covers_sound, survived_fit}
 
 pub covers_room : (n d w heard : ℕ) (rows faults : List ℕ) (got : ℕ) → got ≡ covers_refusal n d w heard rows faults → got ≡ 0
     → (n * 4 ≤ length rows) × RowsBelow n w (row_in rows)

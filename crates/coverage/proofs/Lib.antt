@@ -2,3 +2,5 @@
 pub mod Parts
 pub mod Entries
 pub mod Examples
+pub mod CoverageLaws
+pub mod RefusalLaws

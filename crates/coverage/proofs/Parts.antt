@@ -16,7 +16,7 @@ use Rattle.lists.specs.All.{any}
 use Rattle.lists.proofs.Loops.{Missed, miss, hit}
 use Rattle.bitmap.specs.Mask.{has_bit, count}
 use Rattle.rows.specs.Row.{row_in, low_in}
-use Rattle.rows.specs.TableLaws.{low_is}
+use Rattle.rows.proofs.TableLaws.{low_is}
 use Rattle.coverage.specs.Coverage.{flag_of, share_of, union_of, leaves, RowsBelow, completes}
 
 -- ---- a replica's flag: h and f are its bits of those heard and of the set

@@ -1,4 +1,2 @@
 -- The commit rule and the discard rule, and what they mean in shards and replicas.
 pub mod Coverage
-pub mod RefusalLaws
-pub mod CoverageLaws

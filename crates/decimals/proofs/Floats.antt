@@ -10,7 +10,7 @@ use lib.Ieee.{inf, nan, Float, fin, binary64, up, down, round, mul, div}
 use lib.Ieee.Fits.{down_pos}
 use lib.Ieee.Exact.{HasValue}
 use lib.Ieee.Scale.{round_same}
-use Rattle.decimals.specs.DigitLaws.{ten_pos}
+use Rattle.decimals.proofs.DigitLaws.{ten_pos}
 
 -- ---- one operation on whole numbers rounds once
 mul_exact : (x y : Float) (a b : ℕ) → HasValue x false a 1 → HasValue y false b 1 → mul binary64 x y ≡ round binary64 false (a * b) 1

@@ -2,3 +2,5 @@
 pub mod Floats
 pub mod Steps
 pub mod Examples
+pub mod DecimalLaws
+pub mod DigitLaws

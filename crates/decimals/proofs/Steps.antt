@@ -15,7 +15,7 @@ use Rattle.lists.specs.AllLaws.{all_means}
 use Rattle.numerals.specs.Text.{without}
 use Rattle.numerals.specs.Whole.{is_digit, spelt}
 use Rattle.decimals.specs.Decimal.{is_negative, unsigned}
-use Rattle.decimals.specs.DigitLaws.{ten_pos, digit_range, room_step, room_for, room_after, both_small}
+use Rattle.decimals.proofs.DigitLaws.{ten_pos, digit_range, room_step, room_for, room_after, both_small}
 
 -- ---- a minus sign
 pub negative_none : (s : List ℕ) → length s ≡ 0 → false ≡ is_negative s

@@ -1,4 +1,2 @@
 -- Decimals: as they are written, which are refused, and the double that one is.
 pub mod Decimal
-pub mod DigitLaws
-pub mod DecimalLaws

@@ -15,7 +15,7 @@ use Rattle.marks.specs.Marks.{flagged}
 use Rattle.refusals.specs.Numbers.{EVERY_REPLICA, ROOM}
 use Rattle.refusals.specs.Outcome.{refused, accepted}
 use Rattle.maximal.specs.Maximal.{maximals}
-use Rattle.maximal.specs.MaximalLaws.{maximals_same}
+use Rattle.maximal.proofs.MaximalLaws.{maximals_same}
 use Rattle.faults.specs.FaultList.{list_answer, list_words}
 
 -- ---- the three answers

@@ -5,3 +5,6 @@ pub mod Tables
 pub mod Answers
 pub mod Entry
 pub mod Examples
+pub mod FamilyLaws
+pub mod FaultListLaws
+pub mod RefusalLaws

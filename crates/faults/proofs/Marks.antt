@@ -20,7 +20,7 @@ use Rattle.bitmap.proofs.Words.{one_shl}
 use Rattle.marks.specs.Marks.{flagged, with_flag}
 use Rattle.marks.specs.MarkLaws.{flagged_with, none_flagged}
 use Rattle.faults.specs.Family.{times_of, is_sized, is_among}
-use Rattle.faults.specs.FamilyLaws.{times_none}
+use Rattle.faults.proofs.FamilyLaws.{times_none}
 use Rattle.faults.specs.Marks.{is_hit, Marked}
 
 -- a test is true or false, with the equation

@@ -2,6 +2,3 @@
 pub mod Family
 pub mod Marks
 pub mod FaultList
-pub mod FaultListLaws
-pub mod FamilyLaws
-pub mod RefusalLaws

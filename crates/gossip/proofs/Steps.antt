@@ -13,14 +13,14 @@ use lib.ListN.{length, set, replicate}
 use Rattle.lists.proofs.BelowLoops.{taken_below, taken_none, taken_yes, taken_no, taken_still}
 use Rattle.bitmap.specs.Mask.{has_bit, with_bit, count}
 use Rattle.rows.specs.Row.{row_in, rows_in, spelled, with_row}
-use Rattle.rows.specs.WordLaws.{Words}
-use Rattle.rows.specs.TableLaws.{rows_at, rows_with, rows_none, rows_spelled}
+use Rattle.rows.proofs.WordLaws.{Words}
+use Rattle.rows.proofs.TableLaws.{rows_at, rows_with, rows_none, rows_spelled}
 use Rattle.refusals.specs.Outcome.{accepted}
 use Rattle.refusals.proofs.Outcomes.{is_accepted}
 use Rattle.gossip.specs.Gossip.{Walked, fresh, met, visit, ring, round, turns, walk, gossip_refusal, gossip_of, exclusions_left}
-use Rattle.gossip.specs.RefusalLaws.{gossip_sound}
-use Rattle.gossip.specs.TurnLaws.{source_last, source_own}
-use Rattle.gossip.specs.WalkLaws.{visit_passed, visit_met}
+use Rattle.gossip.proofs.RefusalLaws.{gossip_sound}
+use Rattle.gossip.proofs.TurnLaws.{source_last, source_own}
+use Rattle.gossip.proofs.WalkLaws.{visit_passed, visit_met}
 
 -- ---- `meet`: a is what is then available, k its count
 module _ (d row : ℕ) (w : Walked) (p a k : ℕ) (e : a ≡ bit_or w.available row) (q : k ≡ count a) where

@@ -13,12 +13,12 @@ use Rattle.refusals.specs.Outcome.{accepted}
 use Rattle.refusals.proofs.Checks.{checks, call_passes, call_fails}
 use Rattle.refusals.proofs.Outcomes.{is_accepted}
 use Rattle.rows.specs.Row.{row_in, spelled}
-use Rattle.rows.specs.TableLaws.{spelled_length}
+use Rattle.rows.proofs.TableLaws.{spelled_length}
 use Rattle.coverage.specs.Coverage.{RowsBelow, commits}
 use Rattle.layout.specs.declared.TotalShards.{TotalShards}
 use Rattle.layout.specs.Layout.{Fit, bound, width_of, rows_of, heard_loads, layout_commits, rows_refusal, rows_written, commits_refusal, layout_commits_of, trial_written}
-use Rattle.layout.specs.LayoutLaws.{rows_length, heard_length, spelled_below, spelled_commits}
-use Rattle.layout.specs.RefusalLaws.{rows_sound, trial_sound}
+use Rattle.layout.proofs.LayoutLaws.{rows_length, heard_length, spelled_below, spelled_commits}
+use Rattle.layout.proofs.RefusalLaws.{rows_sound, trial_sound}
 
 -- ---- the shards, tested with b, which is the width
 module _ (d w b : ℕ) (r : Bool) where

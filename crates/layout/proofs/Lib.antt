@@ -2,3 +2,5 @@
 pub mod Loads
 pub mod Entries
 pub mod Examples
+pub mod LayoutLaws
+pub mod RefusalLaws

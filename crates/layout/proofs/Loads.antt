@@ -9,7 +9,7 @@ use native.Mathlib.Omega.{arith}
 use lib.ListN.{length, get_or, take}
 use lib.Seq.{take_all, length-take-le}
 use Rattle.layout.specs.Layout.{dealt, partial, row_for, row_at}
-use Rattle.layout.specs.LayoutLaws.{partial_upto, partial_le}
+use Rattle.layout.proofs.LayoutLaws.{partial_upto, partial_le}
 use Rattle.refusals.specs.Limits.{most_shards}
 
 -- ---- a load k: a is whether the replica answers

@@ -1,3 +1,4 @@
 -- How the code comes to what the definitions say, and worked values.
 pub mod Rows
 pub mod Examples
+pub mod LayoutLaws

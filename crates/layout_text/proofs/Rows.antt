@@ -15,10 +15,10 @@ use Rattle.lists.proofs.BelowLoops.{Filled, filled_none, filled_more, filled_don
 use Rattle.bitmap.specs.declared.ReplicaId.{ReplicaId}
 use Rattle.bitmap.specs.WidthLaws.{run_below}
 use Rattle.rows.specs.declared.Row.{Row}
-use Rattle.rows.specs.Row.{words, row_of, row_in, with_row, spelled}
-use Rattle.rows.specs.WordLaws.{Words, value_lt}
+use Rattle.rows.specs.Row.{words, row_of, row_in, with_row, spelled, first_rows}
+use Rattle.rows.proofs.WordLaws.{Words, value_lt}
 use Rattle.rows.proofs.Facts.{are_words}
-use Rattle.rows.specs.FirstRows.{first_rows, first_rows_length, first_rows_set, first_rows_none, first_rows_spell, first_rows_take}
+use Rattle.rows.proofs.FirstRows.{first_rows_length, first_rows_set, first_rows_none, first_rows_spell, first_rows_take}
 use Rattle.refusals.specs.Numbers.{LAYOUT}
 use Rattle.refusals.proofs.Outcomes.{is_checked}
 use Rattle.refusals.specs.Outcome.{Outcome, refused, accepted, outcome, left, and_then}
@@ -32,7 +32,7 @@ use Rattle.numerals.specs.declared.Whole.TheVariants as Wholes
 use Rattle.numerals.specs.declared.Shards.{Shards}
 use Rattle.numerals.specs.declared.Shards.TheVariants as Shardings
 use Rattle.layout_text.specs.LayoutText.{share, run_at, runs_of, length_of, segment_of, segment_in, segments_of, layout_of, input_refusal, table_refusal, init_of, in_table, init_table, segment, answer}
-use Rattle.layout_text.specs.LayoutLaws.{segment_below, tabled}
+use Rattle.layout_text.proofs.LayoutLaws.{segment_below, tabled}
 use Rattle.layout_text.specs.declared.Init.{Init}
 use Rattle.layout_text.specs.declared.Init.TheVariants.{Refused, Rows}
 use Rattle.layout_text.specs.declared.Segment.{Segment}

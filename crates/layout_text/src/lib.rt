@@ -4,8 +4,7 @@
 ghost use Rattle.std.specs.Prelude.{◌≡◌, false, ◌+◌, ◌*◌, ◌^◌, ◌<◌, ◌≤◌, length};
 ghost use Rattle.std.specs.Int.Bits.{bit_or};
 ghost use Rattle.bitmap.specs.Mask.{run_modulo};
-ghost use Rattle.rows.specs.Row.{row_of, row_in, with_row};
-ghost use Rattle.rows.specs.FirstRows.{first_rows};
+ghost use Rattle.rows.specs.Row.{row_of, row_in, with_row, first_rows};
 ghost use Rattle.refusals.specs.Outcome.{accepted, left};
 ghost use Rattle.refusals.specs.Limits.{most_shards};
 ghost use Rattle.numerals.specs.Text.{split};

@@ -2,3 +2,4 @@
 pub mod Supersets
 pub mod Passes
 pub mod Examples
+pub mod MaximalLaws

@@ -18,7 +18,7 @@ use Rattle.lists.specs.Below.{some_below}
 use Rattle.lists.specs.BelowLaws.{Passing, some_below_means, some_below_same, none_below_means}
 use Rattle.marks.specs.Marks.{flagged}
 use Rattle.maximal.specs.Maximal.{is_part, is_maximal}
-use Rattle.maximal.specs.MaximalLaws.{Alone, within_le, part_means, is_maximal_means}
+use Rattle.maximal.proofs.MaximalLaws.{Alone, within_le, part_means, is_maximal_means}
 use Rattle.maximal.specs.Tables.{Flags, is_within, is_lacking, is_shown, is_top}
 
 -- ---- m with a member b that it lacks

@@ -1,4 +1,3 @@
 -- The maximal members of a family of sets, families as tables, and what they mean.
 pub mod Maximal
 pub mod Tables
-pub mod MaximalLaws

@@ -15,12 +15,12 @@ use Rattle.lists.specs.All.{all, any}
 use Rattle.bitmap.specs.Mask.{with_bit}
 use Rattle.rows.specs.declared.Row.{Row}
 use Rattle.rows.specs.Row.{row_of}
-use Rattle.rows.specs.LowLaws.{value_low}
+use Rattle.rows.proofs.LowLaws.{value_low}
 use Rattle.refusals.specs.Numbers.{NUMERAL}
 use Rattle.refusals.specs.Outcome.{Outcome, refused, accepted}
 use Rattle.numerals.specs.Text.{without, is_blank, trim_start, trim_end, trim, cut_by, is_same}
 use Rattle.numerals.specs.Whole.{is_digit, is_digits, spelt, unplussed, whole_of, member_of, member_in, members_of, whole, shards}
-use Rattle.numerals.specs.WholeLaws.{below_limit, members_below}
+use Rattle.numerals.proofs.WholeLaws.{below_limit, members_below}
 use Rattle.numerals.specs.declared.Whole.{Whole}
 use Rattle.numerals.specs.declared.Whole.TheVariants.{Refused, Value}
 use Rattle.numerals.specs.declared.Shards.{Shards}

@@ -4,6 +4,4 @@ pub mod Text
 pub mod TextLaws
 pub mod SplitLaws
 pub mod Read
-pub mod ReadLaws
 pub mod Whole
-pub mod WholeLaws

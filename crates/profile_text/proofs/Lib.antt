@@ -1,3 +1,5 @@
 -- How the code comes to what the definitions say, and worked values.
 pub mod Mechanisms
 pub mod Examples
+pub mod ProfileTextLaws
+pub mod RefusalLaws

@@ -16,7 +16,7 @@ use Rattle.profiles.specs.declared.Profile.{Profile}
 use Rattle.numerals.specs.Text.{is_empty, is_same, trim, before, behind, split}
 use Rattle.numerals.specs.TextLaws.{PartOf}
 use Rattle.numerals.specs.Read.{read_each}
-use Rattle.numerals.specs.ReadLaws.{read_last, read_more}
+use Rattle.numerals.proofs.ReadLaws.{read_last, read_more}
 use Rattle.numerals.specs.Whole.{members_of, members}
 use Rattle.numerals.specs.declared.Members.{Members}
 use Rattle.numerals.specs.declared.Members.TheVariants as Memberships

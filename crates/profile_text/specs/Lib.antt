@@ -1,4 +1,2 @@
 -- The text of a reliability profile: what it is read to, and what refuses it.
 pub mod ProfileText
-pub mod ProfileTextLaws
-pub mod RefusalLaws

@@ -1,5 +1,3 @@
 -- The reliability profile: its check, and the unreliability of a peer.
 pub mod Profile
 pub mod Unreliability
-pub mod RefusalLaws
-pub mod ChanceLaws

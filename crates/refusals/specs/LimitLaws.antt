@@ -10,7 +10,7 @@ use Rattle.lists.specs.AllLaws.{Each, all_means}
 use Rattle.lists.specs.BelowLaws.{none_below_means}
 use Rattle.bitmap.specs.Mask.{bit, all_below}
 use Rattle.bitmap.specs.MaskLaws.{below_means, full_bit, full}
-use Rattle.rows.specs.TableLaws.{Rows}
+use Rattle.rows.proofs.TableLaws.{Rows}
 use Rattle.refusals.specs.Limits.{most_shards, is_population, is_shards, is_quorum, is_in_flight, is_overfull, peers_fit, is_mask, is_row, is_fault_set, is_fault_list, is_under}
 
 -- a bound and what else is tested

@@ -16,8 +16,8 @@ use lib.Seq.{sets}
 use Rattle.bitmap.specs.Mask.{has_bit, is_below, count, run, gather}
 use Rattle.bitmap.specs.CountLaws.{count_ones}
 use Rattle.rows.specs.declared.Row.{Row}
-use Rattle.rows.specs.Row.{value, words_of, words, row_of}
-use Rattle.rows.specs.WordLaws.{Words, words_value, value_inj, value_bit, value_count, value_below, span, run_words}
+use Rattle.rows.specs.Row.{value, words_of, words, row_of, span}
+use Rattle.rows.proofs.WordLaws.{Words, words_value, value_inj, value_bit, value_count, value_below, run_words}
 
 -- ---- the fields are words
 pub are_words : (r : Row) → r.w0 < 2 ^ 64 → r.w1 < 2 ^ 64 → r.w2 < 2 ^ 64 → r.w3 < 2 ^ 64 → Words (words r)

@@ -14,8 +14,8 @@ use Rattle.lists.specs.Below.{each_below, front}
 use Rattle.lists.specs.BelowLaws.{each_below_length}
 use Rattle.lists.proofs.BelowLoops.{front_length}
 use Rattle.rows.specs.Row.{words_of, last_in, spelled, with_row, unite_below}
-use Rattle.rows.specs.WordLaws.{words_length}
-use Rattle.rows.specs.TableLaws.{spelled_length, spelled_append}
+use Rattle.rows.proofs.WordLaws.{words_length}
+use Rattle.rows.proofs.TableLaws.{spelled_length, spelled_append}
 
 -- ---- a union of rows
 module _ (f : ℕ → ℕ) where

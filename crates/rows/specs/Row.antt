@@ -1,9 +1,10 @@
 -- A row of shards as machine words, the lowest shards first, and a lent table of rows. A row is the number that its words stand for.
 -- Assumes nothing.
-use Rattle.std.specs.Prelude.{List, [], ◌∷◌, ◌++◌, ℕ, zero, suc, ◌+◌, ◌*◌, ◌/◌, ◌%◌, ◌^◌, length, get_or, take, drop}
+use Rattle.std.specs.Prelude.{List, [], ◌∷◌, ◌++◌, ℕ, zero, suc, ◌+◌, ◌-◌, ◌*◌, ◌/◌, ◌%◌, ◌^◌, min, length, get_or, take, drop}
 use Rattle.std.specs.Int.Bits.{bit_or}
 use Rattle.std.proofs.lemmas.List.Edits.{sets}
 use Rattle.lists.specs.Below.{each_below}
+use Rattle.bitmap.specs.Mask.{run}
 use Rattle.rows.specs.declared.Row.{Row}
 
 -- the number that words of 64 bits stand for
@@ -38,6 +39,10 @@ last_in table s = get_or table (s * 4 + 3) 0
 unfoldable pub rows_in : List ℕ → List ℕ
 rows_in table = each_below (row_in table) ((length table + 3) / 4)
 
+-- the first n rows of a table
+abbrev pub first_rows : ℕ → List ℕ → List ℕ
+first_rows n table = each_below (row_in table) n
+
 -- the table that has these rows
 unfoldable pub spelled : List ℕ → List ℕ
 spelled [] = []
@@ -51,3 +56,7 @@ with_row table s m = sets table (s * 4) (words_of 4 m)
 unfoldable pub unite_below : (ℕ → ℕ) → ℕ → ℕ
 unite_below f zero = 0
 unite_below f (suc k) = bit_or (unite_below f k) (f k)
+
+-- of a run from a up to e, the members of the first word
+abbrev pub span : ℕ → ℕ → ℕ
+span a e = run (min a 64) (min e 64 - min a 64)

@@ -6,8 +6,7 @@ ghost use Rattle.std.specs.Int.Bits.{bit_or};
 ghost use Rattle.lists.specs.All.{all};
 ghost use Rattle.lists.specs.Below.{each_below, front};
 ghost use Rattle.bitmap.specs.Mask.{has_bit, with_bit, is_below, count, run, run_modulo};
-ghost use Rattle.rows.specs.Row.{words, row_of, row_in, last_in, rows_in, unite_below, with_row, spelled};
-ghost use Rattle.rows.specs.WordLaws.{span};
+ghost use Rattle.rows.specs.Row.{words, row_of, row_in, last_in, rows_in, unite_below, with_row, spelled, span};
 
 // The number of a shard.
 #[derive(Clone, Copy)]

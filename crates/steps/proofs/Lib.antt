@@ -1,3 +1,6 @@
 -- How the code comes to what the definitions say, and worked values.
 pub mod Steps
 pub mod Examples
+pub mod QuorumLaws
+pub mod RingLaws
+pub mod StepLaws

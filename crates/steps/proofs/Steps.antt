@@ -17,7 +17,7 @@ use Rattle.refusals.specs.Limits.{most_shards}
 use Rattle.times.specs.declared.PerfModel.{PerfModel}
 use Rattle.times.specs.Times.{never, predict_of, model_in, models_in}
 use Rattle.steps.specs.Steps.{peer_at, in_flight, still, peer_time, peer_times, step_time, step_shards, step_quorum, time_of_step, best_step}
-use Rattle.steps.specs.StepLaws.{shares_positive, steps_all, step_shards_le, peer_below, peer_not_own, best_step_means}
+use Rattle.steps.proofs.StepLaws.{shares_positive, steps_all, step_shards_le, peer_below, peer_not_own, best_step_means}
 
 -- ---- a model, read: what a table lacks does not matter
 pub model_read : (l : List Float) (p : ℕ) (d : Float) → p * 3 + 2 < length l

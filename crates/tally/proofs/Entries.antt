@@ -14,8 +14,8 @@ use Rattle.refusals.proofs.Outcomes.{is_refused, leaves_all}
 use Rattle.coverage.specs.Coverage.{RowsBelow, commits}
 use Rattle.tally.specs.declared.Tally.{Tally}
 use Rattle.tally.specs.Tally.{Reply, Said, waiting, committed, already_committed, fresh, open_refusal, opening_of, reply_refusal, reply_of, tally_after, updated, settled, row_with, noted, is_committing}
-use Rattle.tally.specs.RefusalLaws.{countable}
-use Rattle.tally.specs.ReplyLaws.{noted_rows}
+use Rattle.tally.proofs.RefusalLaws.{countable}
+use Rattle.tally.proofs.ReplyLaws.{noted_rows}
 
 -- ---- `reply`
 module _ (t : Tally) (r : Reply) (got : ℕ) (e : got ≡ reply_refusal t r) where

@@ -1,3 +1,6 @@
 -- How the code comes to what the definitions say, and worked values.
 pub mod Entries
 pub mod Examples
+pub mod Demand
+pub mod RefusalLaws
+pub mod ReplyLaws

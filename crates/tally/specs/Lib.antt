@@ -1,6 +1,3 @@
 -- The tally of accept replies, and what it says of whole lists of them.
 pub mod Tally
-pub mod RefusalLaws
 pub mod Replies
-pub mod ReplyLaws
-pub mod Demand

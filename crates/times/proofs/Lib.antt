@@ -2,3 +2,5 @@
 pub mod Tables
 pub mod Worked
 pub mod Examples
+pub mod TermLaws
+pub mod TimeLaws

@@ -4,7 +4,7 @@ use Rattle.std.proofs.Common.{◌≡◌, ℕ, suc, ◌+◌, ◌*◌, ◌<◌, �
 use lib.Ieee.{Float}
 use lib.ListN.{get_or-eq_default}
 use Rattle.times.specs.Times.{most_times, never, time_of, cell, time_in}
-use Rattle.times.specs.TimeLaws.{place_row, place_load, place_replica}
+use Rattle.times.proofs.TimeLaws.{place_row, place_load, place_replica}
 use Rattle.times.specs.declared.PeerRecord.{PeerRecord}
 use Rattle.refusals.specs.Limits.{most_shards}
 

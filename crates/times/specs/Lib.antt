@@ -1,4 +1,2 @@
 -- Predicted reply times.
 pub mod Times
-pub mod TimeLaws
-pub mod TermLaws

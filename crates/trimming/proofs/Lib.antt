@@ -2,3 +2,5 @@
 pub mod Orders
 pub mod Passes
 pub mod Examples
+pub mod OrderLaws
+pub mod TrimmingLaws

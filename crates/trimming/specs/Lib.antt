@@ -1,5 +1,3 @@
 -- The order of trimming, and trimming step by step, with what it comes to.
 pub mod Order
-pub mod OrderLaws
 pub mod Trimming
-pub mod TrimmingLaws

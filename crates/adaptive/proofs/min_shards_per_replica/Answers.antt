@@ -3,7 +3,7 @@ use mathlib.Core.Path.{sym, ap, ◌∙◌}
 use native.Mathlib.Omega.{arith}
 use Rattle.refusals.proofs.Outcomes.{outcomes, is_accepted}
 use Rattle.adaptive.specs.Floor.{floor_of, min_shards_of}
-use Rattle.adaptive.specs.RefusalLaws.{floor_sound}
+use Rattle.adaptive.proofs.RefusalLaws.{floor_sound}
 use Rattle.adaptive.proofs.min_shards_per_replica.Goals as goal
 
 pub returns-then-no-ne0 : goal.returns-then-no-ne0

@@ -3,7 +3,7 @@ use mathlib.Core.Path.{sym, ◌∙◌}
 use native.Mathlib.Omega.{arith}
 use Rattle.refusals.proofs.Outcomes.{outcomes, leaves_all}
 use Rattle.assignment.specs.Plans.{full_copies_of, copies_written}
-use Rattle.assignment.specs.PlanLaws.{copies_sound}
+use Rattle.assignment.proofs.PlanLaws.{copies_sound}
 use Rattle.assignment.proofs.Parts.{copies_done}
 use Rattle.assignment.proofs.full_copies.Goals as goal
 

@@ -5,7 +5,7 @@ use Prim.Native.Nat.{◌≤◌}
 use native.Mathlib.Omega.{arith}
 use Rattle.refusals.specs.Limits.{most_shards}
 use Rattle.refusals.specs.Outcome.{Outcome}
-use Rattle.times.specs.TimeLaws.{shard_length_le}
+use Rattle.times.proofs.TimeLaws.{shard_length_le}
 use Rattle.assignment.specs.Plans.{Plan, planned}
 use Rattle.assignment.proofs.Parts.{tested, pick_is}
 use Rattle.assignment.proofs.pick_in.Goals as goal

@@ -4,7 +4,7 @@ use Rattle.std.proofs.Common.{sym, ap, ◌∙◌}
 use Rattle.rows.specs.Row.{row_of}
 use Rattle.tally.specs.Tally.{told}
 use Rattle.c_types.specs.declared.Reply.{Reply}
-use Rattle.c_types.specs.TallyThroughC.{kept}
+use Rattle.c_types.proofs.ThroughCLaws.{kept}
 use Rattle.callboard.proofs.callboard_accept_reply.Goals as goal
 use Rattle.callboard.proofs.callboard_accept_reply.Goals.{then-r-eq0, else-r-eq0}
 

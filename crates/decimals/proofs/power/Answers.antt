@@ -1,6 +1,6 @@
 -- `decimals::power` meets its contract. Assumes nothing.
 use native.Mathlib.Omega.{arith}
-use Rattle.decimals.specs.DigitLaws.{room_for, spelt_small}
+use Rattle.decimals.proofs.DigitLaws.{room_for, spelt_small}
 use Rattle.decimals.proofs.power.Goals as goal
 
 pub returns : goal.returns

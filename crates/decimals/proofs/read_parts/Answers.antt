@@ -11,7 +11,7 @@ use Rattle.refusals.specs.Numbers.{NUMERAL, DIGITS}
 use Rattle.refusals.specs.Outcome.{refused, accepted}
 use Rattle.numerals.specs.Whole.{spelt}
 use Rattle.decimals.specs.Decimal.{Written, is_well_formed, digits, read_of}
-use Rattle.decimals.specs.DigitLaws.{formed}
+use Rattle.decimals.proofs.DigitLaws.{formed}
 use Rattle.decimals.proofs.Steps.{digits_spelt, scale_means}
 use Rattle.std.proofs.lemmas.Bool.{not_from_true}
 use Rattle.decimals.proofs.read_parts.Goals as goal

@@ -4,7 +4,7 @@ use Rattle.lists.specs.Below.{front}
 use Rattle.refusals.specs.Outcome.{accepted}
 use Rattle.marks.specs.Marks.{flagged}
 use Rattle.maximal.specs.Maximal.{maximals}
-use Rattle.maximal.specs.MaximalLaws.{kept_list}
+use Rattle.maximal.proofs.MaximalLaws.{kept_list}
 use Rattle.faults.proofs.Answers.{no_survivor, no_room, all_listed, whole_set}
 use Rattle.faults.proofs.list_of.Goals as goal
 

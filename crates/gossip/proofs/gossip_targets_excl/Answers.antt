@@ -3,7 +3,7 @@ use mathlib.Core.Path.{refl, sym, ◌∙◌}
 use native.Mathlib.Omega.{arith}
 use Rattle.refusals.proofs.Outcomes.{outcomes, leaves_all}
 use Rattle.gossip.specs.Gossip.{gossip_of, exclusions_left}
-use Rattle.gossip.specs.RefusalLaws.{gossip_sound}
+use Rattle.gossip.proofs.RefusalLaws.{gossip_sound}
 use Rattle.gossip.proofs.Steps.{asks, excludes}
 use Rattle.gossip.proofs.gossip_targets_excl.Goals as goal
 

@@ -2,7 +2,7 @@
 use mathlib.Core.Path.{refl}
 use native.Mathlib.Omega.{arith}
 use Rattle.rows.specs.Row.{words}
-use Rattle.rows.specs.WordLaws.{value_lt}
+use Rattle.rows.proofs.WordLaws.{value_lt}
 use Rattle.rows.proofs.Facts.{are_words}
 use Rattle.gossip.proofs.Steps.{adds_nothing, adds}
 use Rattle.gossip.proofs.meet.Goals as goal

@@ -9,7 +9,7 @@ use Rattle.lists.proofs.Lent.{lent, back, back_room, back_lent, back_enough}
 use Rattle.lists.specs.Below.{front}
 use Rattle.rows.specs.Row.{row_in, spelled}
 use Rattle.coverage.specs.Coverage.{commits}
-use Rattle.layout.specs.LayoutLaws.{spelled_commits}
+use Rattle.layout.proofs.LayoutLaws.{spelled_commits}
 use Rattle.layout.specs.declared.TotalShards.{TotalShards}
 use Rattle.layout.specs.Layout.{rows_of}
 use Rattle.layout.proofs.Entries.{whole, laid_below}

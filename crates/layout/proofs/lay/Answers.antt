@@ -1,7 +1,7 @@
 -- `layout::lay` meets its contract. Assumes nothing.
 use borrow.Author.Rules.{rules}
 use Rattle.layout.specs.Layout.{rows_of}
-use Rattle.layout.specs.LayoutLaws.{width_fits}
+use Rattle.layout.proofs.LayoutLaws.{width_fits}
 use Rattle.layout.proofs.lay.Goals as goal
 
 pub deal-requires : goal.deal-requires

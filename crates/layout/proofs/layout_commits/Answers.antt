@@ -6,7 +6,7 @@ use lib.ListN.{replicate}
 use Rattle.lists.proofs.Lent.{lent, back, back_room, back_lent}
 use Rattle.refusals.proofs.Outcomes.{outcomes, leaves_all}
 use Rattle.layout.specs.Layout.{layout_commits_of, trial_written}
-use Rattle.layout.specs.RefusalLaws.{trial_sound}
+use Rattle.layout.proofs.RefusalLaws.{trial_sound}
 use Rattle.layout.proofs.Entries.{trial_small, trial_below, trial_written_is, trial_says}
 use Rattle.layout.proofs.layout_commits.Goals as goal
 

@@ -4,7 +4,7 @@ use native.Mathlib.Omega.{arith}
 use borrow.Author.Rules.{rules}
 use Rattle.refusals.proofs.Outcomes.{outcomes, leaves_all}
 use Rattle.layout.specs.Layout.{layout_rows_of, rows_written}
-use Rattle.layout.specs.RefusalLaws.{rows_sound}
+use Rattle.layout.proofs.RefusalLaws.{rows_sound}
 use Rattle.layout.proofs.Entries.{rows_written_are}
 use Rattle.layout.proofs.layout_rows.Goals as goal
 

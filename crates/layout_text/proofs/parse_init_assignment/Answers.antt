@@ -2,7 +2,7 @@
 use mathlib.Core.Path.{sym, ap, ◌∙◌}
 use native.Mathlib.Omega.{arith}
 use Rattle.numerals.specs.Whole.{whole}
-use Rattle.layout_text.specs.LayoutLaws.{readable, length_le}
+use Rattle.layout_text.proofs.LayoutLaws.{readable, length_le}
 use Rattle.layout_text.proofs.Rows.{ends_unread, ends_runs, ends_segments}
 use Rattle.layout_text.proofs.parse_init_assignment.Goals as goal
 

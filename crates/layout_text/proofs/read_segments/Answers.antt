@@ -1,7 +1,7 @@
 -- `layout_text::read_segments` meets its contract. Assumes nothing.
 use native.Mathlib.Omega.{arith}
 use borrow.Author.Rules.{rules}
-use Rattle.numerals.specs.ReadLaws.{read_refused, read_last, read_more}
+use Rattle.numerals.proofs.ReadLaws.{read_refused, read_last, read_more}
 use Rattle.layout_text.specs.LayoutText.{segment_in}
 use Rattle.layout_text.proofs.Rows.{row_refused, row_below, row_united}
 use Rattle.layout_text.proofs.read_segments.Goals as goal

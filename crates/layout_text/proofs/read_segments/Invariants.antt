@@ -1,7 +1,7 @@
 use mathlib.Core.Path.{◌≡◌}
 use Prim.Native.Nat.{◌≤◌, ◌-◌}
 use lib.ListN.{length, drop}
-use Rattle.rows.specs.FirstRows.{first_rows}
+use Rattle.rows.specs.Row.{first_rows}
 use Rattle.numerals.specs.Text.{split}
 use Rattle.numerals.specs.Read.{read_each}
 use Rattle.layout_text.specs.LayoutText.{segment_in}

@@ -2,7 +2,7 @@
 use mathlib.Core.Path.{refl, sym, ◌∙◌}
 use native.Mathlib.Omega.{arith}
 use borrow.Author.Rules.{rules}
-use Rattle.layout_text.specs.LayoutLaws.{tabled}
+use Rattle.layout_text.proofs.LayoutLaws.{tabled}
 use Rattle.layout_text.proofs.Rows.{lands_written}
 use Rattle.layout_text.proofs.write_runs.Goals as goal
 

@@ -3,7 +3,7 @@ use mathlib.Core.Path.{◌≡◌, sym, ◌∙◌}
 use native.Mathlib.Omega.{arith}
 use borrow.Author.Rules.{rules}
 use lib.ListN.{length}
-use Rattle.layout_text.specs.LayoutLaws.{tabled}
+use Rattle.layout_text.proofs.LayoutLaws.{tabled}
 use Rattle.layout_text.proofs.Rows.{segments_rows, segments_refused, lands_misread, lands_untabled, lands_written, copied_rows}
 use Rattle.layout_text.proofs.write_segments.Goals as goal
 

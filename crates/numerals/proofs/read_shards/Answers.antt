@@ -7,7 +7,7 @@ use lib.ListN.{length, drop}
 use Rattle.rows.specs.Row.{row_of}
 use Rattle.numerals.specs.Text.{split}
 use Rattle.numerals.specs.Read.{read_each}
-use Rattle.numerals.specs.ReadLaws.{read_refused, read_last, read_more}
+use Rattle.numerals.proofs.ReadLaws.{read_refused, read_last, read_more}
 use Rattle.numerals.specs.Whole.{member_in, members_of}
 use Rattle.numerals.proofs.Scans.{member_refused, member_read, member_below}
 use Rattle.numerals.proofs.read_shards.Goals as goal

@@ -5,7 +5,7 @@ use borrow.Author.Rules.{rules}
 use lib.Ieee.{of_bits}
 use Rattle.floats.specs.Floats.{plus_zero}
 use Rattle.profile_text.specs.ProfileText.{filled}
-use Rattle.numerals.specs.ReadLaws.{read_refused}
+use Rattle.numerals.proofs.ReadLaws.{read_refused}
 use Rattle.profile_text.specs.ProfileText.{decimal_in, decimals_of, decimals}
 use Rattle.profile_text.proofs.Mechanisms.{decimal_refused, held_next, held_past, collected_last, collected_more}
 use Rattle.profile_text.proofs.read_decimals.Goals as goal

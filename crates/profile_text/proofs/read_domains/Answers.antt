@@ -1,7 +1,7 @@
 -- `profile_text::read_domains` meets its contract. Assumes nothing.
 use mathlib.Core.Path.{refl, ap, ◌∙◌}
 use borrow.Author.Rules.{rules}
-use Rattle.numerals.specs.ReadLaws.{read_refused, read_last, read_more}
+use Rattle.numerals.proofs.ReadLaws.{read_refused, read_last, read_more}
 use Rattle.profile_text.specs.ProfileText.{with_domain, domain_in, domains_in, parsed}
 use Rattle.profile_text.proofs.Mechanisms.{domain_full, domain_refused, domain_read}
 use Rattle.profile_text.proofs.read_domains.Goals as goal

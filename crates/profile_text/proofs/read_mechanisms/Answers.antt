@@ -2,7 +2,7 @@
 use mathlib.Core.Path.{◌≡◌, ap, ◌∙◌}
 use Rattle.refusals.specs.Outcome.{accepted}
 use borrow.Author.Rules.{rules}
-use Rattle.numerals.specs.ReadLaws.{read_refused, read_last, read_more}
+use Rattle.numerals.proofs.ReadLaws.{read_refused, read_last, read_more}
 use Rattle.profile_text.specs.ProfileText.{mechanism_in, mechanisms_of, parsed}
 use Rattle.profile_text.proofs.Mechanisms.{mechanism_skipped, mechanism_refused, mechanism_read}
 use Rattle.std.proofs.lemmas.Bool.{not_from_false, not_from_true}

@@ -2,7 +2,7 @@
 use mathlib.Core.Path.{ap, ◌∙◌}
 use Prim.Native.Nat.{◌-◌}
 use Rattle.bitmap.specs.Mask.{is_below}
-use Rattle.rows.specs.TableLaws.{all_rows_below, last_words_below}
+use Rattle.rows.proofs.TableLaws.{all_rows_below, last_words_below}
 use Rattle.rows.proofs.are_below.Goals as goal
 
 pub returns-then-w-ge192 : goal.returns-then-w-ge192

@@ -1,7 +1,7 @@
 -- `rows::is_below` meets its contract. Assumes nothing.
 use native.Mathlib.Omega.{arith}
 use Rattle.rows.specs.Row.{words}
-use Rattle.rows.specs.WordLaws.{Words}
+use Rattle.rows.proofs.WordLaws.{Words}
 use Rattle.rows.proofs.Facts.{are_words, no_first, no_second, no_third, all_four}
 use Rattle.std.proofs.lemmas.Bool.{not_from_false, not_from_true}
 use Rattle.rows.proofs.is_below.Goals as goal

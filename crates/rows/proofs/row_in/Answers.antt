@@ -1,5 +1,5 @@
 -- `rows::row_in` meets its contract. Assumes nothing.
-use Rattle.rows.specs.TableLaws.{row_is}
+use Rattle.rows.proofs.TableLaws.{row_is}
 use Rattle.rows.proofs.row_in.Goals as goal
 
 pub returns : goal.returns

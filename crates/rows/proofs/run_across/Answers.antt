@@ -1,7 +1,7 @@
 -- `rows::run_across` meets its contract. Assumes nothing.
 use mathlib.Core.Path.{◌∙◌}
 use Rattle.rows.proofs.Facts.{run_is}
-use Rattle.rows.specs.WordLaws.{value_run}
+use Rattle.rows.proofs.WordLaws.{value_run}
 use Rattle.rows.proofs.run_across.Goals as goal
 
 pub returns : goal.returns

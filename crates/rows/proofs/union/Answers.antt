@@ -1,7 +1,7 @@
 -- `rows::union` meets its contract. Assumes nothing.
 use native.Mathlib.Omega.{arith}
 use Rattle.rows.specs.Row.{words}
-use Rattle.rows.specs.WordLaws.{value_or}
+use Rattle.rows.proofs.WordLaws.{value_or}
 use Rattle.rows.proofs.Facts.{are_words}
 use Rattle.rows.proofs.union.Goals as goal
 

@@ -9,7 +9,7 @@ use Rattle.floats.specs.Floats.{total_le}
 use Rattle.floats.specs.OrderLaws.{nan_above}
 use Rattle.times.specs.Times.{models_in}
 use Rattle.steps.specs.Steps.{time_of_step, best_step}
-use Rattle.steps.specs.StepLaws.{steps_all}
+use Rattle.steps.proofs.StepLaws.{steps_all}
 use Rattle.steps.proofs.Steps.{no_number, timed}
 use Rattle.steps.proofs.best_step.Goals as goal
 use Rattle.steps.proofs.best_step.Goals.{then-not-total_le, else-not-total_le}

@@ -2,7 +2,7 @@
 use Rattle.std.proofs.Common.{◌≡◌, false, sym, ap, ◌∙◌}
 use Rattle.rows.specs.Row.{row_of}
 use Rattle.tally.specs.Tally.{told, answer, is_taken, reply_of}
-use Rattle.tally.specs.ReplyLaws.{refused_leaves}
+use Rattle.tally.proofs.ReplyLaws.{refused_leaves}
 use Rattle.tally.proofs.accept_reply.Goals as goal
 
 pub returns-else-is_taken : goal.returns-else-is_taken

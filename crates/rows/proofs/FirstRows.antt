@@ -5,13 +5,9 @@ use Rattle.std.proofs.Math.Decide.{ℕ_discrete}
 use Rattle.std.proofs.lemmas.List.{length-replicate, get_or-replicate}
 use Rattle.lists.specs.Below.{each_below}
 use Rattle.lists.specs.BelowLaws.{each_below_length, each_below_at}
-use Rattle.rows.specs.Row.{value, words_of, row_in, spelled, with_row}
-use Rattle.rows.specs.WordLaws.{Words, words_value}
-use Rattle.rows.specs.TableLaws.{part_words, spelled_append, with_row_same, with_row_other, first_row, no_row}
-
--- the first n rows of a table
-abbrev pub first_rows : ℕ → List ℕ → List ℕ
-first_rows n table = each_below (row_in table) n
+use Rattle.rows.specs.Row.{value, words_of, row_in, spelled, with_row, first_rows}
+use Rattle.rows.proofs.WordLaws.{Words, words_value}
+use Rattle.rows.proofs.TableLaws.{part_words, spelled_append, with_row_same, with_row_other, first_row, no_row}
 
 pub first_rows_length : (n : ℕ) (table : List ℕ) → length (first_rows n table) ≡ n
 first_rows_length n table = each_below_length (row_in table) n

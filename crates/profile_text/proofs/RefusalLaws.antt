@@ -12,17 +12,17 @@ use Rattle.refusals.specs.Limits.{is_population}
 use Rattle.refusals.specs.LimitLaws.{population_means}
 use Rattle.profiles.specs.declared.Profile.{Profile}
 use Rattle.profiles.specs.Profile.{probs_fit}
-use Rattle.profiles.specs.RefusalLaws.{Sound, profile_sound}
+use Rattle.profiles.proofs.RefusalLaws.{Sound, profile_sound}
 use Rattle.numerals.specs.Text.{is_text, is_empty, is_same, trim, before, behind, split}
 use Rattle.numerals.specs.TextLaws.{Ascii, text_means}
 use Rattle.numerals.specs.Read.{read_each}
-use Rattle.numerals.specs.ReadLaws.{first_fault}
+use Rattle.numerals.proofs.ReadLaws.{first_fault}
 use Rattle.numerals.specs.Whole.{is_digits, spelt, unplussed, whole_of, below_of, member_of, member_in, members_of}
 use Rattle.decimals.specs.Decimal.{written_of, is_well_formed, is_short, value_of, decimal_of}
 use Rattle.profile_text.specs.ProfileText.{nothing, with_domain, with_probs, with_runtime, none_name, domains_name, probs_name, runtime_name, most_bytes}
 use Rattle.profile_text.specs.ProfileText.{domain_in, domains_in, decimal_in, decimals_of, default_threshold, threshold_of, fitting, probs_in}
 use Rattle.profile_text.specs.ProfileText.{named_in, mechanism_in, mechanisms_of, profile_of}
-use Rattle.profile_text.specs.ProfileTextLaws.{accepted_fits}
+use Rattle.profile_text.proofs.ProfileTextLaws.{accepted_fits}
 
 -- ---- the numbers of the faults in a text
 

@@ -16,14 +16,14 @@ use Rattle.bitmap.specs.Mask.{bit, has_bit, count, nth_row}
 use Rattle.bitmap.specs.MaskLaws.{bit_none, Beyond}
 use Rattle.rows.specs.Row.{rows_in, spelled}
 use Rattle.rows.specs.Row as Table
-use Rattle.rows.specs.TableLaws.{rows_at, row_below, spelled_row}
+use Rattle.rows.proofs.TableLaws.{rows_at, row_below, spelled_row}
 use Rattle.refusals.specs.Outcome.{accepted}
 use Rattle.refusals.specs.OutcomeLaws.{accepted_means}
 use Rattle.gossip.specs.Gossip.{Walked, fresh, visit, turns, walk, gossip_refusal, gossip_of, exclusions_left}
-use Rattle.gossip.specs.RefusalLaws.{gossip_sound}
-use Rattle.gossip.specs.TurnLaws.{Peer, turns_means, turns_distinct}
-use Rattle.gossip.specs.UnionLaws.{UnionOf, LiveIn, union_same, union_unique, union_none}
-use Rattle.gossip.specs.WalkLaws.{after, Reached, reaches, all_met, goes, AskedIn, after_asked, after_length, Kept, after_others, Asks, own_asked, own_exclusion, own_none, after_narrow}
+use Rattle.gossip.proofs.RefusalLaws.{gossip_sound}
+use Rattle.gossip.proofs.TurnLaws.{Peer, turns_means, turns_distinct}
+use Rattle.gossip.proofs.UnionLaws.{UnionOf, LiveIn, union_same, union_unique, union_none}
+use Rattle.gossip.proofs.WalkLaws.{after, Reached, reaches, all_met, goes, AskedIn, after_asked, after_length, Kept, after_others, Asks, own_asked, own_exclusion, own_none, after_narrow}
 
 module _ (n own source d available : ℕ) (rows : List ℕ) (alive : ℕ) (o : own < n) (s : source < n) where
   abbrev end : Walked

@@ -22,7 +22,7 @@ use Rattle.refusals.specs.Limits.{is_mask}
 use Rattle.refusals.specs.OutcomeLaws.{accepted_means}
 use Rattle.refusals.specs.Outcome.{accepted}
 use Rattle.coverage.specs.Coverage.{share_of, union_of, leaves, is_covered, commits, covers_refusal, covers_of, spares, is_survived, survived_refusal, survived_of}
-use Rattle.coverage.specs.RefusalLaws.{survived_fit}
+use Rattle.coverage.proofs.RefusalLaws.{survived_fit}
 
 -- ---- which shards are left
 

@@ -8,7 +8,7 @@ use Rattle.bitmap.specs.WidthLaws.{none_below, with_below}
 use Rattle.refusals.specs.Numbers.{MEMBER}
 use Rattle.refusals.specs.Outcome.{Outcome, refused, accepted, and_then}
 use Rattle.numerals.specs.Text.{trim, split}
-use Rattle.numerals.specs.ReadLaws.{read_keeps}
+use Rattle.numerals.proofs.ReadLaws.{read_keeps}
 use Rattle.numerals.specs.Whole.{whole_of, below_of, member_of, member_in, members_of}
 
 -- it is below the limit

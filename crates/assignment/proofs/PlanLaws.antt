@@ -20,7 +20,7 @@ use Rattle.bitmap.specs.Members.{Many, many_map}
 use Rattle.bitmap.specs.RunLaws.{run_all}
 use Rattle.bitmap.specs.RunCounts.{run_count}
 use Rattle.rows.specs.Row.{rows_in, spelled, row_in}
-use Rattle.rows.specs.TableLaws.{Rows, spelled_length, spelled_row, spelled_rows}
+use Rattle.rows.proofs.TableLaws.{Rows, spelled_length, spelled_row, spelled_rows}
 use Rattle.refusals.specs.Numbers.{TRIMMED}
 use Rattle.refusals.specs.FirstLaws.{none_holds}
 use Rattle.refusals.specs.Limits.{is_row}
@@ -28,20 +28,20 @@ use Rattle.refusals.specs.LimitLaws.{AreRows, rows_small, population_means, shar
 use Rattle.refusals.specs.Outcome.{Outcome, refused, accepted, outcome}
 use Rattle.refusals.specs.OutcomeLaws.{checked_means, accepted_means}
 use Rattle.coverage.specs.Coverage.{covers_of}
-use Rattle.coverage.specs.CoverageLaws.{Survives, commits_means, covers_means}
-use Rattle.coverage.specs.RefusalLaws.{FaultList, covers_sound}
+use Rattle.coverage.proofs.CoverageLaws.{Survives, commits_means, covers_means}
+use Rattle.coverage.proofs.RefusalLaws.{FaultList, covers_sound}
 use Rattle.floats.specs.FirstLaws.{Fits}
 use Rattle.layout.specs.declared.TotalShards.{TotalShards}
 use Rattle.layout.specs.declared.TotalShards.TheVariants.{Exactly, AtMost}
 use Rattle.layout.specs.Layout.{Fit, bound, partial, width_of, rows_of, layout_commits, rows_refusal, layout_rows_of, rows_written}
-use Rattle.layout.specs.LayoutLaws.{partial_without, width_exactly, width_at_most, width_fits, rows_length, rows_full, rows_below}
+use Rattle.layout.proofs.LayoutLaws.{partial_without, width_exactly, width_at_most, width_fits, rows_length, rows_full, rows_below}
 use Rattle.times.specs.declared.PeerRecord.{PeerRecord}
 use Rattle.times.specs.Times.{shard_length, times_of, PeersInBounds}
-use Rattle.times.specs.TimeLaws.{times_fit}
-use Rattle.trimming.specs.OrderLaws.{order_listed}
-use Rattle.trimming.specs.TrimmingLaws.{trimmed_length, trimmed_other}
+use Rattle.times.proofs.TimeLaws.{times_fit}
+use Rattle.trimming.proofs.OrderLaws.{order_listed}
+use Rattle.trimming.proofs.TrimmingLaws.{trimmed_length, trimmed_other}
 use Rattle.candidates.specs.Search.{candidates, answered_at, loads_at, commits_at, first_time}
-use Rattle.candidates.specs.SearchLaws.{Answering, answers_means, answered_below, loads_length, own_load, First, first_time_means, no_time_means}
+use Rattle.candidates.proofs.SearchLaws.{Answering, answers_means, answered_below, loads_length, own_load, First, first_time_means, no_time_means}
 use Rattle.assignment.specs.Plans.{Plan, loads_for, plan_at, plan_of, in_flight, pick_cases, pick_refusal, pick_of, planned, copies_cases, copies_refusal, copies_width, full_copies_of, copies_written}
 
 -- ---- what an unrefused input is

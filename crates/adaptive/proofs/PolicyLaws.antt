@@ -13,7 +13,7 @@ use Rattle.std.proofs.lemmas.Bool.{eqb-false, not-true}
 use Rattle.lists.specs.AllLaws.{all_means}
 use Rattle.bitmap.specs.Mask.{count}
 use Rattle.rows.specs.Row.{row_in, rows_in, spelled}
-use Rattle.rows.specs.TableLaws.{rows_length, rows_at, spelled_rows, spelled_length}
+use Rattle.rows.proofs.TableLaws.{rows_length, rows_at, spelled_rows, spelled_length}
 use Rattle.refusals.specs.Limits.{is_row}
 use Rattle.refusals.specs.LimitLaws.{AreRows, rows_small}
 use Rattle.refusals.specs.Outcome.{Outcome, refused, accepted}
@@ -21,9 +21,9 @@ use Rattle.refusals.specs.OutcomeLaws.{accepted_means}
 use Rattle.refusals.specs.OutcomeLaws as Outcomes
 use Rattle.adaptive.specs.Floor.{floor_of, floor_refusal, min_shards_of}
 use Rattle.steps.specs.Steps.{step_shards, step_quorum}
-use Rattle.steps.specs.StepLaws.{shares_whole, shares_positive}
+use Rattle.steps.proofs.StepLaws.{shares_whole, shares_positive}
 use Rattle.adaptive.specs.Policy.{has_count, rows_for, policy_refusal, best_shards, choice_of, policy_of, rows_of, Holds}
-use Rattle.adaptive.specs.RefusalLaws.{floor_sound, PolicySound, policy_sound}
+use Rattle.adaptive.proofs.RefusalLaws.{floor_sound, PolicySound, policy_sound}
 
 -- ---- the floor
 

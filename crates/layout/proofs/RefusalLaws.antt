@@ -3,7 +3,7 @@ use Rattle.std.specs.Prelude.{◌≡◌, refl, ◌↔◌, List, ℕ, ◌*◌, �
 use borrow.Author.Tests.{eqb-true, eq-eqb, ltb-true, lt-ltb, not-false}
 use Rattle.refusals.specs.FirstLaws.{none_holds}
 use Rattle.refusals.specs.LimitLaws.{population_means, shards_means, quorum_means, fault_list_means}
-use Rattle.coverage.specs.RefusalLaws.{FaultList}
+use Rattle.coverage.proofs.RefusalLaws.{FaultList}
 use Rattle.layout.specs.declared.TotalShards.{TotalShards}
 use Rattle.layout.specs.Layout.{Fit, bound, rows_cases, rows_refusal, commits_cases, commits_refusal}
 

@@ -17,9 +17,9 @@ use Rattle.bitmap.specs.Members.{grown}
 use Rattle.floats.specs.Floats.{one}
 use Rattle.profiles.specs.declared.Profile.{Profile}
 use Rattle.profiles.specs.Profile.{has_probs, domains_of, probs_of}
-use Rattle.maximal.specs.MaximalLaws.{Contained}
+use Rattle.maximal.proofs.MaximalLaws.{Contained}
 use Rattle.faults.specs.Family.{times_of, is_probable, is_sized, is_among, family_of, family}
-use Rattle.faults.specs.FaultListLaws.{faults, listed_means, tolerated}
+use Rattle.faults.proofs.FaultListLaws.{faults, listed_means, tolerated}
 
 -- ---- the product of a set: without a member it is what it was, and its last member's probability is multiplied in last
 pub times_none : (ps : List Float) (a : Float) → times_of ps 0 a ≡ a

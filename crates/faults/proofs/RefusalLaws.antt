@@ -6,7 +6,7 @@ use Rattle.refusals.specs.FirstLaws.{none_holds}
 use Rattle.refusals.specs.LimitLaws.{population_means}
 use Rattle.profiles.specs.declared.Profile.{Profile}
 use Rattle.profiles.specs.Profile.{profile_cases}
-use Rattle.profiles.specs.RefusalLaws.{Sound, profile_sound}
+use Rattle.profiles.proofs.RefusalLaws.{Sound, profile_sound}
 use Rattle.maximal.specs.Maximal.{maximals}
 use Rattle.faults.specs.Family.{family}
 use Rattle.faults.specs.FaultList.{input_cases, list_cases, fault_refusal}

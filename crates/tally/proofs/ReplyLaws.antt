@@ -17,16 +17,16 @@ use Rattle.lists.specs.All.{AllOf}
 use Rattle.lists.specs.AllLaws.{all_of_means, all_of_map}
 use Rattle.bitmap.specs.Mask.{bit, has_bit, with_bit}
 use Rattle.rows.specs.Row.{row_in, with_row}
-use Rattle.rows.specs.TableLaws.{no_row, first_row, first_rows_below, row_below, with_row_same, with_row_other, with_row_length}
+use Rattle.rows.proofs.TableLaws.{no_row, first_row, first_rows_below, row_below, with_row_same, with_row_other, with_row_length}
 use Rattle.bitmap.specs.MaskLaws.{bit_none, or_means, with_means}
 use Rattle.bitmap.specs.Members.{many_map}
 use Rattle.refusals.specs.Outcome.{outcome, written}
 use Rattle.coverage.specs.Coverage.{RowsBelow, commits}
-use Rattle.coverage.specs.CoverageLaws.{Held, commits_means}
+use Rattle.coverage.proofs.CoverageLaws.{Held, commits_means}
 use Rattle.tally.specs.declared.Tally.{Tally}
 use Rattle.tally.specs.Tally.{Reply, Said, waiting, committed, already_committed, open_refusal, fresh, is_same_value, reply_refusal, row_with}
 use Rattle.tally.specs.Tally.{noted, is_committing, settled, is_taken, said_of, reply_of, tally_after}
-use Rattle.tally.specs.RefusalLaws.{openable, countable}
+use Rattle.tally.proofs.RefusalLaws.{openable, countable}
 use Rattle.tally.specs.Replies.{says_committed, Taken, taking, taken, unrefused, after_all, replies, last_or, last_said, Stays, Heard, Named, Left, Commits, Lent, Included}
 
 -- ---- one reply

@@ -10,7 +10,7 @@ use Rattle.floats.specs.OrderLaws.{Larger, larger_means, larger_nan}
 use Rattle.floats.specs.RangeLaws.{FromZeroToOne}
 use Rattle.profiles.specs.declared.Profile.{Profile}
 use Rattle.profiles.specs.Unreliability.{given, chance_of}
-use Rattle.profiles.specs.RefusalLaws.{Sound}
+use Rattle.profiles.proofs.RefusalLaws.{Sound}
 
 module _ (n peer : ℕ) (p : Profile) (sound : Sound n p) (replica : peer < n) (words : n ≤ length p.probs) where
   -- what an unrefused profile gives a peer is from 0 to 1

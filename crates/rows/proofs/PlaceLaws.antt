@@ -13,8 +13,8 @@ use Rattle.lists.specs.AllLaws.{all_means}
 use Rattle.bitmap.specs.Mask.{bit, is_below}
 use Rattle.bitmap.specs.MaskLaws.{below_bit, bits_below}
 use Rattle.rows.specs.Row.{row_in, rows_in}
-use Rattle.rows.specs.WordLaws.{Words, word_bit, value_lt}
-use Rattle.rows.specs.TableLaws.{part_words, rows_at, row_below}
+use Rattle.rows.proofs.WordLaws.{Words, word_bit, value_lt}
+use Rattle.rows.proofs.TableLaws.{part_words, rows_at, row_below}
 
 module _ (table : List ℕ) (h : Words table) where
   place : (s j t : ℕ) → j < 4 → t < 64 → bit (row_in table s) (j * 64 + t) ≡ bit (get_or table (s * 4 + j) 0) t

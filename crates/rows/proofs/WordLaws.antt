@@ -11,7 +11,7 @@ use Rattle.bitmap.specs.MaskLaws.{bit_zero, bit_half, bit_none}
 use Rattle.bitmap.specs.CountLaws.{count_ones, count_none}
 use Rattle.bitmap.specs.Members.{Many, count_means, many_map}
 use Rattle.bitmap.specs.RunLaws.{run_is}
-use Rattle.rows.specs.Row.{value, words_of}
+use Rattle.rows.specs.Row.{value, words_of, span}
 
 -- each is a word of 64 bits
 abbrev pub Words : List ℕ → Type 0
@@ -152,10 +152,6 @@ value_with (x ∷ xs) h (suc j) t l g =
     ∙ ap (λ (y : ℕ). bit_or (value xs) (2 ^ (j * 64 + t)) * 2 ^ 64 + y) (or_zero_r x))
 
 -- ---- a run from a up to e, word by word
-
--- the members of the first word
-abbrev pub span : ℕ → ℕ → ℕ
-span a e = run (min a 64) (min e 64 - min a 64)
 
 abbrev pub run_words : ℕ → ℕ → ℕ → List ℕ
 run_words zero a e = []

@@ -13,8 +13,8 @@ use Rattle.lists.specs.All.{all}
 use Rattle.lists.specs.AllLaws.{all_means}
 use Rattle.lists.specs.BelowLaws.{each_below_length, each_below_all}
 use Rattle.rows.specs.Row.{rows_in, spelled}
-use Rattle.rows.specs.LowLaws.{spaced, spelled_low}
-use Rattle.rows.specs.TableLaws.{Rows, spelled_length, spelled_rows}
+use Rattle.rows.proofs.LowLaws.{spaced, spelled_low}
+use Rattle.rows.proofs.TableLaws.{Rows, spelled_length, spelled_rows}
 use Rattle.bitmap.specs.WidthLaws.{none_below, or_below, run_below}
 use Rattle.refusals.specs.Numbers.{POPULATION, SHARDS, TEXT, LAYOUT, MULTIPLE, TABLE}
 use Rattle.refusals.specs.First.{unless}
@@ -24,9 +24,9 @@ use Rattle.refusals.specs.Limits.{most_shards, is_population, is_shards, is_row,
 use Rattle.refusals.specs.LimitLaws.{AreRows, rows_small, population_means, shards_means}
 use Rattle.numerals.specs.Text.{without, is_text, is_empty, is_byte, cut, has_byte, before, behind, split}
 use Rattle.numerals.specs.TextLaws.{PartOf, Ascii, text_means, cut_le}
-use Rattle.numerals.specs.ReadLaws.{read_keeps, read_refused}
+use Rattle.numerals.proofs.ReadLaws.{read_keeps, read_refused}
 use Rattle.numerals.specs.Whole.{is_digits, whole_of, below_of, members_of}
-use Rattle.numerals.specs.WholeLaws.{below_limit, members_below}
+use Rattle.numerals.proofs.WholeLaws.{below_limit, members_below}
 use Rattle.layout_text.specs.LayoutText.{share, run_at, runs_of, length_of, segment_of, segment_in, segments_of, or_segments, layout_of, most_bytes, input_refusal, table_refusal, init_of, init_table}
 
 -- ---- runs

@@ -11,8 +11,8 @@ use Rattle.bitmap.specs.Members.{Many, count_means, many_map}
 use Rattle.bitmap.specs.RunLaws.{Among, gather_means}
 use Rattle.bitmap.specs.RunCounts.{Different, gather_count, run_count, member_below, count_below}
 use Rattle.steps.specs.Steps.{step_shards, step_quorum}
-use Rattle.steps.specs.StepLaws.{shares_whole, shares_positive}
-use Rattle.steps.specs.RingLaws.{cover, cover_below, cover_count, origin}
+use Rattle.steps.proofs.StepLaws.{shares_whole, shares_positive}
+use Rattle.steps.proofs.RingLaws.{cover, cover_below, cover_count, origin}
 
 -- a replica of the mask m has the shard s: its run of `len` shards starts at its number times `share`, modulo n shares
 pub record HeldBy (n share len m s : ℕ) : Type 0 where

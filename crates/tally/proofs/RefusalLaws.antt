@@ -7,7 +7,7 @@ use Rattle.rows.specs.Row.{rows_in}
 use Rattle.refusals.specs.FirstLaws.{none_holds}
 use Rattle.refusals.specs.Limits.{most_shards, is_row}
 use Rattle.refusals.specs.LimitLaws.{population_means, shards_means, quorum_means, fault_list_means}
-use Rattle.coverage.specs.RefusalLaws.{FaultList}
+use Rattle.coverage.proofs.RefusalLaws.{FaultList}
 use Rattle.tally.specs.declared.Tally.{Tally}
 use Rattle.tally.specs.Tally.{Reply, open_cases, open_refusal, reply_cases, reply_refusal, is_same_value}
 

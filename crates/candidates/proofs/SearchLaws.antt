@@ -26,7 +26,7 @@ use Rattle.layout.specs.declared.TotalShards.{TotalShards}
 use Rattle.layout.specs.Layout.{layout_commits}
 use Rattle.times.specs.declared.PeerRecord.{PeerRecord}
 use Rattle.times.specs.Times.{time_of, cell, times_of, time_in}
-use Rattle.times.specs.TimeLaws.{place_row, place_load, place_within}
+use Rattle.times.proofs.TimeLaws.{place_row, place_load, place_within}
 use Rattle.candidates.specs.Search.{candidates, in_time, run_at, answers, load_at, answered_at, loads_at, commits_at, first_time}
 
 -- ---- candidates: the finite times of the table

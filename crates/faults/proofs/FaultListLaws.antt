@@ -24,7 +24,7 @@ use Rattle.refusals.specs.Limits.{is_tolerance, is_mask, is_fault_set, is_fault_
 use Rattle.refusals.specs.LimitLaws.{fault_list_means}
 use Rattle.profiles.specs.declared.Profile.{Profile}
 use Rattle.maximal.specs.Maximal.{maximals}
-use Rattle.maximal.specs.MaximalLaws.{Contained, maximal_means, contained, rising}
+use Rattle.maximal.proofs.MaximalLaws.{Contained, maximal_means, contained, rising}
 use Rattle.faults.specs.Family.{is_sized, family_of, family}
 use Rattle.faults.specs.FaultList.{input_cases, list_cases, fault_refusal, fault_list_of, fault_words}
 

@@ -21,13 +21,13 @@ use Rattle.bitmap.specs.RunLaws.{Among, run_all, gather_means}
 use Rattle.bitmap.specs.WidthLaws.{run_below}
 use Rattle.bitmap.specs.RunCounts.{run_count, run_modulo_count}
 use Rattle.rows.specs.Row.{spelled, row_in, rows_in}
-use Rattle.rows.specs.TableLaws.{Rows, spelled_row, spelled_rows, row_below as table-row-below}
+use Rattle.rows.proofs.TableLaws.{Rows, spelled_row, spelled_rows, row_below as table-row-below}
 use Rattle.refusals.specs.Outcome.{accepted}
 use Rattle.refusals.specs.OutcomeLaws.{accepted_means}
 use Rattle.refusals.specs.Limits.{is_row}
 use Rattle.refusals.specs.LimitLaws.{rows_small as table_small}
 use Rattle.coverage.specs.Coverage.{RowsBelow, commits}
-use Rattle.coverage.specs.CoverageLaws.{Survives, commits_means}
+use Rattle.coverage.proofs.CoverageLaws.{Survives, commits_means}
 use Rattle.layout.specs.declared.TotalShards.{TotalShards}
 use Rattle.layout.specs.declared.TotalShards.TheVariants.{Exactly, AtMost}
 use Rattle.layout.specs.Layout.{Fit, bound, dealt, partial, width_for, width_of, row_for, row_at, rows_of, layout_commits, heard_load, heard_loads, rows_refusal, layout_rows_of, rows_written, commits_refusal, layout_commits_of, trial_written}

@@ -15,7 +15,7 @@ use Rattle.rounding.specs.NearestLaws.{nearest, tie_even}
 use Rattle.rounding.specs.SignLaws.{round_sign}
 use Rattle.rounding.specs.FiniteLaws.{round_finite}
 use Rattle.decimals.specs.Decimal.{is_negative, Written, written_of, is_well_formed, counted, ups, downs, is_short, digits, value_of, decimal_of}
-use Rattle.decimals.specs.DigitLaws.{ten_pos, formed, both_small}
+use Rattle.decimals.proofs.DigitLaws.{ten_pos, formed, both_small}
 
 -- ---- which are accepted
 

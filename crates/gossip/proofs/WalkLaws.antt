@@ -13,7 +13,7 @@ use Rattle.bitmap.specs.Mask.{bit, has_bit, with_bit, count}
 use Rattle.bitmap.specs.MaskLaws.{bit_with, bit_same, bit_other, Beyond, beyond_means}
 use Rattle.bitmap.specs.CountLaws.{count_within}
 use Rattle.gossip.specs.Gossip.{Walked, met, visit}
-use Rattle.gossip.specs.UnionLaws.{UnionOf, LiveIn, union_within, union_unique, union_none, union_dead, union_live, union_with}
+use Rattle.gossip.proofs.UnionLaws.{UnionOf, LiveIn, union_within, union_unique, union_none, union_dead, union_live, union_with}
 
 -- a list of rows below a width, with another such row
 set_below : (k : ℕ) (xs : List ℕ) (p a : ℕ) → ((i : ℕ) → get_or xs i 0 < 2 ^ k) → a < 2 ^ k → (i : ℕ) → get_or (set xs p a) i 0 < 2 ^ k

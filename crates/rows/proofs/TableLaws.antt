@@ -20,8 +20,8 @@ use Rattle.lists.specs.AllLaws.{Each}
 use Rattle.lists.specs.Below.{each_below}
 use Rattle.lists.specs.BelowLaws.{each_below_length, each_below_at, each_below_all}
 use Rattle.rows.specs.Row.{value, words_of, row_in, low_in, last_in, rows_in, spelled, with_row, unite_below}
-use Rattle.rows.specs.LowLaws.{value_low}
-use Rattle.rows.specs.WordLaws.{Words, value_one, below_past, value_words, words_value, words_length}
+use Rattle.rows.proofs.LowLaws.{value_low}
+use Rattle.rows.proofs.WordLaws.{Words, value_one, below_past, value_words, words_value, words_length}
 
 -- ---- the words of a row
 

@@ -17,8 +17,8 @@ use Rattle.profiles.specs.Profile.{domains_of, domains_fit, probs_fit, domains_c
 use Rattle.numerals.specs.Text.{is_text, is_empty, is_same, trim, before, behind, split}
 use Rattle.numerals.specs.Read.{read_each}
 use Rattle.numerals.specs.Whole.{members_of}
-use Rattle.numerals.specs.ReadLaws.{read_keeps}
-use Rattle.numerals.specs.WholeLaws.{members_below}
+use Rattle.numerals.proofs.ReadLaws.{read_keeps}
+use Rattle.numerals.proofs.WholeLaws.{members_below}
 use Rattle.profile_text.specs.ProfileText.{nothing, with_domain, with_words, with_probs, with_runtime, domain_in, domains_in, decimals_of, threshold_of, fitting, probs_in, none_name, domains_name, probs_name, runtime_name, named_in, mechanism_in, mechanisms_of, most_bytes, profile_of}
 
 -- ---- what every profile has that is read

@@ -17,7 +17,7 @@ use Rattle.refusals.specs.Outcome.{written}
 use Rattle.tally.specs.declared.Tally.{Tally}
 use Rattle.tally.specs.Tally.{Reply, open_refusal, fresh, opening_of, reply_refusal}
 use Rattle.tally.specs.Replies.{taken, unrefused, after_all, replies, last_said, Stays, Commits, Lent, Included}
-use Rattle.tally.specs.ReplyLaws.{all_stay, Sound, sound_fresh, all_decided, all_unrefused, commits_grow, fresh_exact, both_ways}
+use Rattle.tally.proofs.ReplyLaws.{all_stay, Sound, sound_fresh, all_decided, all_unrefused, commits_grow, fresh_exact, both_ways}
 
 module _ (n quorum d w ballot high low : ℕ) where
   -- the tally that `open` gives
