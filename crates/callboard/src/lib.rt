@@ -1,6 +1,6 @@
-// The C interface (include/callboard.h): an exported function for each entry, which takes its parameters apart, calls the entry and
+// The C interface (include/callboard.h): a function for each entry, which takes its parameters apart, calls the entry and
 // flattens the answer. Every number is 64 bits wide; a slice is a pointer and a length. Beside a refusal every other field is 0, and
-// nothing is written.
+// nothing is written. The crate callboard_c exports each function to C.
 #![tactic(auto)]
 
 ghost use Rattle.std.specs.Prelude.{◌≡◌, true, length};
@@ -36,28 +36,20 @@ struct Replied {
     tally: Tally,
 }
 
-#[unsafe(no_mangle)]
-pub extern "C" fn callboard_parse_profile(n: usize, text: &[u8]) -> ProfileReading
+pub fn callboard_parse_profile(n: usize, text: &[u8]) -> ProfileReading
     ensures { result ≡ to_reading (parsed (profile_of n text.now)) }
 {
     c_types::reading(profile_text::parse_profile(n, text))
 }
 
-#[unsafe(no_mangle)]
-pub extern "C" fn callboard_unreliability(
-    n: usize,
-    peer: usize,
-    p: Profile,
-    down: f64,
-) -> FloatAnswer
+pub fn callboard_unreliability(n: usize, peer: usize, p: Profile, down: f64) -> FloatAnswer
     ensures { result ≡ to_float (unreliability_of n peer (from_profile p) down) }
 {
     c_types::estimate(profiles::unreliability(n, ReplicaId(peer), c_types::from_profile(p), down))
 }
 
 // The value is the count of the list.
-#[unsafe(no_mangle)]
-pub extern "C" fn callboard_fault_list(n: usize, f: usize, p: Profile, list: &mut [u64]) -> Answer
+pub fn callboard_fault_list(n: usize, f: usize, p: Profile, list: &mut [u64]) -> Answer
     ensures answer { result ≡ to_answer (fault_list_of n f (from_profile p) (length list.old)) }
     ensures words { list.new ≡ fault_words n f (from_profile p) list.old }
 {
@@ -65,8 +57,7 @@ pub extern "C" fn callboard_fault_list(n: usize, f: usize, p: Profile, list: &mu
 }
 
 // The value is 1 if the value is covered, else 0.
-#[unsafe(no_mangle)]
-pub extern "C" fn callboard_covers(
+pub fn callboard_covers(
     n: usize,
     d: usize,
     w: usize,
@@ -79,16 +70,14 @@ pub extern "C" fn callboard_covers(
     c_types::coverage(coverage::covers(n, d, w, heard, rows, faults))
 }
 
-#[unsafe(no_mangle)]
-pub extern "C" fn callboard_survived_by(n: usize, heard: u64, faults: &[u64]) -> Answer
+pub fn callboard_survived_by(n: usize, heard: u64, faults: &[u64]) -> Answer
     ensures { result ≡ to_flag (survived_of n heard faults.now) }
 {
     c_types::survival(coverage::survived_by(n, heard, faults))
 }
 
 // The value is the width.
-#[unsafe(no_mangle)]
-pub extern "C" fn callboard_layout_rows(
+pub fn callboard_layout_rows(
     n: usize,
     d: usize,
     ceiling: u64,
@@ -102,8 +91,7 @@ pub extern "C" fn callboard_layout_rows(
     c_types::laid(layout::layout_rows(n, d, c_types::total(ceiling, width), loads, rows))
 }
 
-#[unsafe(no_mangle)]
-pub extern "C" fn callboard_layout_commits(
+pub fn callboard_layout_commits(
     n: usize,
     quorum: usize,
     d: usize,
@@ -130,8 +118,7 @@ pub extern "C" fn callboard_layout_commits(
 }
 
 // Four floats a replica: slope, delay, jitter, unreliability. `heard` has those that are not silent.
-#[unsafe(no_mangle)]
-pub extern "C" fn callboard_pick_assignment(
+pub fn callboard_pick_assignment(
     n: usize,
     own: usize,
     quorum: usize,
@@ -210,8 +197,7 @@ fn is_past(typed: u8) -> bool
 }
 
 // The value is the width.
-#[unsafe(no_mangle)]
-pub extern "C" fn callboard_full_copies(
+pub fn callboard_full_copies(
     n: usize,
     d: usize,
     ceiling: u64,
@@ -224,8 +210,7 @@ pub extern "C" fn callboard_full_copies(
     c_types::laid(assignment::full_copies(n, d, c_types::total(ceiling, width), rows))
 }
 
-#[unsafe(no_mangle)]
-pub extern "C" fn callboard_min_shards_per_replica(
+pub fn callboard_min_shards_per_replica(
     n: usize,
     f: usize,
     d: usize,
@@ -238,8 +223,7 @@ pub extern "C" fn callboard_min_shards_per_replica(
 }
 
 // Three floats a replica: slope, delay, jitter.
-#[unsafe(no_mangle)]
-pub extern "C" fn callboard_pick_assignment_policy(
+pub fn callboard_pick_assignment_policy(
     n: usize,
     f: usize,
     own: usize,
@@ -264,8 +248,7 @@ pub extern "C" fn callboard_pick_assignment_policy(
 }
 
 // The same, with the n rows of the choice written to the lent table.
-#[unsafe(no_mangle)]
-pub extern "C" fn callboard_policy_rows<'a>(
+pub fn callboard_policy_rows<'a>(
     n: usize,
     f: usize,
     own: usize,
@@ -359,8 +342,7 @@ fn copy_part(part: &[u64], rows: &mut [u64])
 }
 
 // The rows are written to the lent table; the value is 0.
-#[unsafe(no_mangle)]
-pub extern "C" fn callboard_parse_init_assignment(
+pub fn callboard_parse_init_assignment(
     n: usize,
     d: usize,
     total: usize,
@@ -374,8 +356,7 @@ pub extern "C" fn callboard_parse_init_assignment(
 }
 
 // The value is the mask of the replicas asked.
-#[unsafe(no_mangle)]
-pub extern "C" fn callboard_gossip_targets_excl(
+pub fn callboard_gossip_targets_excl(
     n: usize,
     own: usize,
     source: usize,
@@ -402,8 +383,7 @@ pub extern "C" fn callboard_gossip_targets_excl(
     ))
 }
 
-#[unsafe(no_mangle)]
-pub extern "C" fn callboard_tally_open(
+pub fn callboard_tally_open(
     n: usize,
     quorum: usize,
     d: usize,
@@ -418,8 +398,7 @@ pub extern "C" fn callboard_tally_open(
 }
 
 // Counts a reply on a lent tally. A refused one leaves it as it was: nothing is stored.
-#[unsafe(no_mangle)]
-pub extern "C" fn callboard_accept_reply(
+pub fn callboard_accept_reply(
     t: &mut Tally,
     source: usize,
     ballot: u64,
