@@ -89,13 +89,13 @@ module _ (s : List ℕ) (x : Float) (e : decimal_of s ≡ accepted x) where
 
   module _ (y : Float) (h : T (fits binary64 y)) (g : T (finite y)) where
     -- no double is nearer
-    pub decimal-nearest :
+    pub decimal_nearest :
         let w = written_of s in
         NoFurther w.negative (digits w * 10 ^ ups w) (10 ^ downs w) x y
-    decimal-nearest = rw decimal_value (nearest binary64 _ _ _ (ten_pos _) rounds y h g)
+    decimal_nearest = rw decimal_value (nearest binary64 _ _ _ (ten_pos _) rounds y h g)
 
     -- and where another is as near, it is the even one
-    pub decimal-even :
+    pub decimal_even :
         let w = written_of s in
         AsFar w.negative (digits w * 10 ^ ups w) (10 ^ downs w) x y → (y ≡ x → ⊥) → IsEven binary64 x
-    decimal-even = rw decimal_value (tie_even binary64 _ _ _ (ten_pos _) rounds y h g)
+    decimal_even = rw decimal_value (tie_even binary64 _ _ _ (ten_pos _) rounds y h g)

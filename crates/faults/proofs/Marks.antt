@@ -130,13 +130,13 @@ module _ (rest : List Float) (q p eps : Float) (j next mask : ℕ) (l : mask < 2
   halves = ⊎_elim (λ e. same (eqb-true _ _ e)) (λ e. other (eqb-false _ _ e)) (either (eqb r mask))
 
 -- the sets from `next` on: with the replica `next` and more, with it alone, and without it
-pub hit-step :
+pub hit_step :
     (ps : List Float) (next mask : ℕ) (p eps d : Float) (j : ℕ) → next < length ps → mask < 2 ^ next
     → is_hit ps next mask p eps j
     ≡ (is_hit ps (next + 1) (mask + 2 ^ next) (mul binary64 p (get_or ps next d)) eps j
     || (eqb j (mask + 2 ^ next) && le eps (mul binary64 p (get_or ps next d)) || is_hit ps (next + 1) mask p eps j))
 unfolding is_hit
-hit-step ps next mask p eps d j h l =
+hit_step ps next mask p eps d j h l =
     rw (lows, highs, add-one, drop-cons ps next d h) (halves (drop (suc next) ps) (get_or ps next d) p eps j next mask l)
 
 -- past the last replica there is none
@@ -146,10 +146,10 @@ hit_none ps next mask p eps j h =
     let z : eqb (j / 2 ^ next) 0 ≡ true = eq-eqb (j / 2 ^ next) 0 (div-eq_of_lt h) in simp z (and-false (eqb (j % 2 ^ next) mask))
 
 -- marks after marks
-pub marked-then :
+pub marked_then :
     (size : ℕ) (f g h : ℕ → Bool) (a b c : List ℕ) → Marked size f a b → Marked size g b c → ((j : ℕ) → h j ≡ (g j || f j)) → Marked size h a c
 unfolding Marked
-marked-then size f g h a b c m n s j l = rw (n j l, m j l, s j) (go (g j) (f j))
+marked_then size f g h a b c m n s j l = rw (n j l, m j l, s j) (go (g j) (f j))
   where
     go : (x y : Bool) → (x || (y || flagged a j)) ≡ ((x || y) || flagged a j)
     go true y = refl

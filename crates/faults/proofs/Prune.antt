@@ -34,11 +34,11 @@ all_drop (suc n) [] h = refl
 all_drop (suc n) (p ∷ ps) h = all_drop n ps ((and-eq-true_iff (is_probability p) (all is_probability ps)).0 h).1
 
 -- from a product below the threshold on there is no probable set
-pub hit-pruned :
+pub hit_pruned :
     (ps : List Float) (next mask : ℕ) (q threshold : Float) (m : ℕ) → all is_probability ps ≡ true → Fine q → le threshold q ≡ false
     → is_hit ps next mask q threshold m ≡ false
 unfolding is_hit
-hit-pruned ps next mask q threshold m h f e = rw (go (le threshold (times_of (drop next ps) (m / 2 ^ next) q)) refl, and-false, and-false)
+hit_pruned ps next mask q threshold m h f e = rw (go (le threshold (times_of (drop next ps) (m / 2 ^ next) q)) refl, and-false, and-false)
   where
     go : (b : Bool) → le threshold (times_of (drop next ps) (m / 2 ^ next) q) ≡ b → le threshold (times_of (drop next ps) (m / 2 ^ next) q) ≡ false
     go true t =

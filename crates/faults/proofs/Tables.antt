@@ -21,12 +21,12 @@ hit_all : (ps : List Float) (threshold : Float) (m : ℕ) → is_hit ps 0 0 one 
 unfolding is_hit is_probable
 hit_all ps threshold m = rw (mod-one, div-one)
 
-pub flags-family :
+pub flags_family :
     (n f : ℕ) (ds : List ℕ) (known : Bool) (ps : List Float) (threshold : Float) (a b c : List ℕ) → 2 ^ n ≤ 64 * length a
     → Flags n (is_sized f) a → Marked (64 * length a) (is_among ds) a b → Marked (2 ^ n) (λ m. known && is_hit ps 0 0 one threshold m) b c
     → Flags n (family_of f ds known ps threshold) c
 unfolding Flags Marked family_of
-flags-family n f ds known ps threshold a b c e h g k m l =
+flags_family n f ds known ps threshold a b c e h g k m l =
     k m l ∙ rw (hit_all, g m (omega arith), h m l) (go (is_sized f m) (is_among ds m) (known && is_probable ps threshold m))
   where
     go : (x y z : Bool) → (z || (y || x)) ≡ (x || (y || z))

@@ -21,7 +21,7 @@ use Rattle.bitmap.specs.RunLaws.{Among, run_all, gather_means}
 use Rattle.bitmap.specs.WidthLaws.{run_below}
 use Rattle.bitmap.specs.RunCounts.{run_count, run_modulo_count}
 use Rattle.rows.specs.Row.{spelled, row_in, rows_in}
-use Rattle.rows.proofs.TableLaws.{Rows, spelled_row, spelled_rows, row_below as table-row-below}
+use Rattle.rows.proofs.TableLaws.{Rows, spelled_row, spelled_rows, row_below as table_row_below}
 use Rattle.refusals.specs.Outcome.{accepted}
 use Rattle.refusals.specs.OutcomeLaws.{accepted_means}
 use Rattle.refusals.specs.Limits.{is_row}
@@ -189,7 +189,7 @@ module _ (d : ℕ) (total : TotalShards) (loads : List ℕ) where
     -- in the table that is spelled from them no shard is at or above the width
     pub spelled_below : (n : ℕ) → RowsBelow n (width_of d total loads) (row_in (spelled (rows_of d total loads)))
     spelled_below n s l =
-        table-row-below (width_of d total loads) (spelled (rows_of d total loads))
+        table_row_below (width_of d total loads) (spelled (rows_of d total loads))
         ((all_means (is_row (width_of d total loads)) 0 (rows_in (spelled (rows_of d total loads)))).0
         (ap (all (is_row (width_of d total loads))) (spelled_rows (rows_of d total loads) rows_small) ∙ rows_below)) s
 

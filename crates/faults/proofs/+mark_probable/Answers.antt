@@ -10,8 +10,8 @@ use Rattle.floats.specs.Floats.{is_probability, Fine}
 use Rattle.floats.proofs.Shrink.{fine_mul}
 use Rattle.marks.specs.Marks.{with_flag}
 use Rattle.faults.specs.Marks.{is_hit, Marked}
-use Rattle.faults.proofs.Marks.{room, hit-step, hit_none, marked-then, marked_one, marked_none, marked_same}
-use Rattle.faults.proofs.Prune.{hit-pruned}
+use Rattle.faults.proofs.Marks.{room, hit_step, hit_none, marked_then, marked_one, marked_none, marked_same}
+use Rattle.faults.proofs.Prune.{hit_pruned}
 use Rattle.faults.proofs.+mark_probable.Goals as goal
 
 -- the product with the probability at `next`
@@ -64,10 +64,10 @@ returns-then-threshold-q t c =
     let B : T2 ≡ with_flag T1 m = rw e at c.put.ensures in
     let C : Marked size (is_hit ps (a.next + 1) m q a.threshold) T2 T3 = rw e at c.mark_probable-then-threshold-q.ensures in
     let AB : Marked size (λ i. (eqb i m && le a.threshold q) || is_hit ps (a.next + 1) a.mask a.p a.threshold i) T0 T2 =
-    marked-then size (is_hit ps (a.next + 1) a.mask a.p a.threshold) (λ i. eqb i m && le a.threshold q) _ T0 T1 T2 c.mark_probable.ensures
+    marked_then size (is_hit ps (a.next + 1) a.mask a.p a.threshold) (λ i. eqb i m && le a.threshold q) _ T0 T1 T2 c.mark_probable.ensures
     (marked_one size m (le a.threshold q) T1 T2 i B c.if-threshold-q.true) (λ i. refl) in
-    marked-then size _ (is_hit ps (a.next + 1) m q a.threshold) _ T0 T2 T3 AB C
-    (λ i. hit-step ps a.next a.mask a.p a.threshold nan i c.if-next-probs.true c.requires.mask_bound)
+    marked_then size _ (is_hit ps (a.next + 1) m q a.threshold) _ T0 T2 T3 AB C
+    (λ i. hit_step ps a.next a.mask a.p a.threshold nan i c.if-next-probs.true c.requires.mask_bound)
 
 pub returns-else-threshold-q : goal.returns-else-threshold-q
 returns-else-threshold-q t c =
@@ -75,10 +75,10 @@ returns-else-threshold-q t c =
     let ps : List Float = a.probs.now in
     let q : Float = mul binary64 a.p (get_or ps a.next nan) in
     let f : Fine q = fine_next ps a.next a.p c.requires.fine c.requires.probs_value c.if-next-probs.true in
-    let n = hit-pruned ps (a.next + 1) (a.mask + 2 ^ a.next) q a.threshold in
+    let n = hit_pruned ps (a.next + 1) (a.mask + 2 ^ a.next) q a.threshold in
     marked_same (2 ^ length ps) (is_hit ps (a.next + 1) a.mask a.p a.threshold) (is_hit ps a.next a.mask a.p a.threshold)
     a.table.now c.mark_probable.new.table c.mark_probable.ensures
-    (λ i. hit-step ps a.next a.mask a.p a.threshold nan i c.if-next-probs.true c.requires.mask_bound
+    (λ i. hit_step ps a.next a.mask a.p a.threshold nan i c.if-next-probs.true c.requires.mask_bound
     ∙ rw (n i c.requires.probs_value f c.if-threshold-q.false, c.if-threshold-q.false, and-false))
 
 pub returns-else-next-probs : goal.returns-else-next-probs

@@ -10,7 +10,7 @@ use Rattle.floats.specs.Floats.{one}
 use Rattle.floats.proofs.Shrink.{one_fine}
 use Rattle.faults.specs.Marks.{Marked, is_hit}
 use Rattle.faults.proofs.Marks.{marked_none}
-use Rattle.faults.proofs.Tables.{flags-family, domains_below}
+use Rattle.faults.proofs.Tables.{flags_family, domains_below}
 use Rattle.faults.proofs.flags.Goals as goal
 
 pub mark_domains-requires : goal.mark_domains-requires
@@ -35,7 +35,7 @@ returns-then-known c =
     let a = c.args in
     let ps = a.probs.now in
     let b : List ℕ = c.mark_domains.new.table in
-    flags-family (length ps) a.f a.domains.now a.known ps a.threshold c.exact.new.table b c.mark_probable.new.table
+    flags_family (length ps) a.f a.domains.now a.known ps a.threshold c.exact.new.table b c.mark_probable.new.table
     (omega (arith, c.requires.probs_bound, c.exact.auto.table)) c.exact.ensures c.mark_domains.ensures
     (subst (λ (x : Bool). Marked (2 ^ length ps) (λ k. x && is_hit ps 0 0 one a.threshold k) b c.mark_probable.new.table)
     (sym c.if-known.true) c.mark_probable.ensures)
@@ -45,7 +45,7 @@ returns-else-known c =
     let a = c.args in
     let ps = a.probs.now in
     let b : List ℕ = c.mark_domains.new.table in
-    flags-family (length ps) a.f a.domains.now a.known ps a.threshold c.exact.new.table b b
+    flags_family (length ps) a.f a.domains.now a.known ps a.threshold c.exact.new.table b b
     (omega (arith, c.requires.probs_bound, c.exact.auto.table)) c.exact.ensures c.mark_domains.ensures
     (subst (λ (x : Bool). Marked (2 ^ length ps) (λ k. x && is_hit ps 0 0 one a.threshold k) b b)
     (sym c.if-known.false) (marked_none (2 ^ length ps) (λ k. false) b (λ j l. refl)))

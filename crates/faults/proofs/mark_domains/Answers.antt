@@ -12,7 +12,7 @@ use Rattle.lists.specs.All.{all}
 use Rattle.lists.specs.AllLaws.{all_means}
 use Rattle.refusals.specs.Limits.{is_under}
 use Rattle.faults.specs.Family.{is_among}
-use Rattle.faults.proofs.Marks.{marked-then, marked_one, marked_none, among_more}
+use Rattle.faults.proofs.Marks.{marked_then, marked_one, marked_none, among_more}
 use Rattle.faults.proofs.mark_domains.Goals as goal
 
 -- the domain at the place i has a bit in the table
@@ -35,7 +35,7 @@ loop-i-preserved c =
     let i = inside size l.i ds c.requires h in (
       search rules,
       c.put.auto.table ∙ l.invariant.1,
-      marked-then size (is_among (take l.i ds)) (λ m. eqb m d && true) _ a.table.now l.table _ l.invariant.2
+      marked_then size (is_among (take l.i ds)) (λ m. eqb m d && true) _ a.table.now l.table _ l.invariant.2
           (marked_one size d true l.table _ (omega (arith, i, l.invariant.1)) c.put.ensures refl)
           (λ m. among_more ds l.i m h),
     )
