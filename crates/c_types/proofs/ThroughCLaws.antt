@@ -19,7 +19,6 @@ use Rattle.tally.specs.Replies.{Taken, taking, taken, unrefused, replies, last_s
 use Rattle.tally.proofs.ReplyLaws.{by_reply, commits_grow, both_ways}
 use Rattle.tally.proofs.Demand.{same_taken, stays, exactly}
 use Rattle.c_types.specs.declared.TallyOpening.{TallyOpening}
-use Rattle.c_types.specs.declared.Reply as C-reply
 use Rattle.c_types.specs.declared.Tally as C-tally
 use Rattle.c_types.specs.CTypes.{is_set, word_of, to_reply, to_tally, from_tally, tally_left, to_opening}
 use Rattle.c_types.specs.TallyThroughC.{answer_through, left_through, taking_through, taken_through}

@@ -16,7 +16,7 @@ use Rattle.rows.specs.Row.{row_in, spelled}
 use Rattle.rows.proofs.TableLaws.{spelled_length}
 use Rattle.coverage.specs.Coverage.{RowsBelow, commits}
 use Rattle.layout.specs.declared.TotalShards.{TotalShards}
-use Rattle.layout.specs.Layout.{Fit, bound, width_of, rows_of, heard_loads, layout_commits, rows_refusal, rows_written, commits_refusal, layout_commits_of, trial_written}
+use Rattle.layout.specs.Layout.{Fit, bound, width_of, rows_of, heard_loads, rows_refusal, rows_written, commits_refusal, layout_commits_of, trial_written}
 use Rattle.layout.proofs.LayoutLaws.{rows_length, heard_length, spelled_below, spelled_commits}
 use Rattle.layout.proofs.RefusalLaws.{rows_sound, trial_sound}
 

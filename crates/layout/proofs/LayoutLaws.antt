@@ -2,12 +2,12 @@
 -- different shards as its load, and apart where the width has room; and what it means that it commits. Assumes nothing.
 use Rattle.std.specs.Prelude.{◌≡◌, ◌↔◌, Bool, List, [], ◌∷◌, ◌++◌, length, take}
 use Rattle.std.proofs.Math.Path.{refl, ap}
-use Rattle.std.proofs.Common.{sym, ap₂, ◌∙◌, le_refl, lt_of_lt_of_le, mod-eq_of_lt, arith, length-append, pow_pos, take-suc, get_or-append-add}
+use Rattle.std.proofs.Common.{sym, ap₂, ◌∙◌, le_refl, mod-eq_of_lt, arith, length-append, take-suc, get_or-append-add}
 use Rattle.std.proofs.Math.Bool.{true, false, cond}
 use Prim.Native.Nat.{ℕ, suc, ◌+◌, ◌*◌, ◌%◌, ◌^◌, ◌≤◌, ◌<◌, min, max}
 use Rattle.std.proofs.Math.Decide.{dec_lt, le_ind}
 use Rattle.std.proofs.Math.Dec.{ltb}
-use Rattle.std.proofs.Math.ListN.{get_or, get_or-append, get_or-eq_default}
+use Rattle.std.proofs.Math.ListN.{get_or, get_or-append}
 use Rattle.std.proofs.Math.Pow.{pow_mono, ones_lt}
 use Rattle.std.proofs.Math.Seq.{take-length, take-append-add}
 use Rattle.std.proofs.lemmas.List.{take-append-le}

@@ -1,8 +1,6 @@
-use mathlib.Core.Path.{refl}
 use Prim.Native.Nat.{◌≤◌, ◌-◌}
-use borrow.Author.Rules.{rules}
 use lib.ListN.{length}
-use Rattle.lists.proofs.Loops.{Passed, pass, fail, done}
+use Rattle.lists.proofs.Loops.{Passed}
 use Rattle.rows.specs.Row.{row_in}
 use Rattle.coverage.specs.Coverage.{leaves}
 use Rattle.coverage.proofs.all_leave.Given as goal

@@ -1,10 +1,7 @@
-use mathlib.Core.Path.{refl}
 use Prim.Native.Nat.{◌≤◌, ◌-◌}
-use borrow.Author.Rules.{rules}
 use lib.ListN.{length}
-use Rattle.lists.proofs.Loops.{Missed, spent}
+use Rattle.lists.proofs.Loops.{Missed}
 use Rattle.coverage.specs.Coverage.{completes}
-use Rattle.coverage.proofs.Parts.{completed, incomplete}
 use Rattle.coverage.proofs.any_spares.Given as goal
 
 abbrev pub invariant-loop-i : goal.invariant-loop-i

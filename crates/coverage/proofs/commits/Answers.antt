@@ -1,5 +1,4 @@
 -- `coverage::commits` meets its contract. Assumes nothing.
-use borrow.Author.Rules.{rules}
 use borrow.Author.Tests.{lt-leb, le-leb}
 use Rattle.coverage.specs.Coverage.{commits}
 use Rattle.coverage.proofs.commits.Goals as goal

@@ -1,5 +1,4 @@
 -- `coverage::covers` meets its contract. Assumes nothing.
-use borrow.Author.Rules.{rules}
 use Rattle.coverage.specs.Coverage.{covers_of}
 use Rattle.refusals.proofs.Outcomes.{said}
 use Rattle.coverage.proofs.Entries.{covers_room}

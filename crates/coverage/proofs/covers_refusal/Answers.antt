@@ -1,5 +1,4 @@
 -- `coverage::covers_refusal` meets its contract. Assumes nothing.
-use borrow.Author.Rules.{rules}
 use Rattle.refusals.proofs.Checks.{checks, at_most_64}
 use Rattle.coverage.specs.Coverage.{covers_refusal}
 use Rattle.coverage.proofs.covers_refusal.Goals as goal

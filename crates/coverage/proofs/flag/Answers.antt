@@ -1,12 +1,9 @@
 -- `coverage::flag` meets its contract. Assumes nothing.
-use borrow.Author.Rules.{rules}
 use mathlib.Core.Path.{◌≡◌, sym}
 use mathlib.Core.Bool.{false}
 use native.Mathlib.Omega.{arith}
-use Rattle.bitmap.specs.Mask.{bit, has_bit}
-use Rattle.bitmap.specs.MaskLaws.{bit_lt}
+use Rattle.bitmap.specs.Mask.{has_bit}
 use Rattle.bitmap.proofs.Words.{beyond}
-use Rattle.coverage.proofs.Parts.{flag_small, flag_is}
 use Rattle.coverage.proofs.flag.Goals as goal
 
 pub returns-then-k-ge64 : goal.returns-then-k-ge64

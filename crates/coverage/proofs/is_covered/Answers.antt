@@ -1,5 +1,4 @@
 -- `coverage::is_covered` meets its contract. Assumes nothing.
-use borrow.Author.Rules.{rules}
 use borrow.Author.Tests.{eq-eqb, ne_eqb}
 use Rattle.coverage.specs.Coverage.{is_covered}
 use Rattle.coverage.proofs.is_covered.Goals as goal

@@ -1,7 +1,6 @@
 -- `coverage::is_survived` meets its contract. Assumes nothing.
 use mathlib.Core.Path.{ap, ◌∙◌}
 use Prim.Native.Nat.{ℕ}
-use borrow.Author.Rules.{rules}
 use Rattle.lists.specs.All.{any}
 use Rattle.bitmap.specs.RunLaws.{run_all}
 use Rattle.coverage.specs.Coverage.{completes}

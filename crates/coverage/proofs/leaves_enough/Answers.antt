@@ -1,5 +1,4 @@
 -- `coverage::leaves_enough` meets its contract. Assumes nothing.
-use borrow.Author.Rules.{rules}
 use Rattle.coverage.specs.Coverage.{leaves}
 use Rattle.coverage.proofs.Parts.{low_leaves}
 use Rattle.coverage.proofs.leaves_enough.Goals as goal

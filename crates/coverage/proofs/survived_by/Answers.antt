@@ -1,5 +1,4 @@
 -- `coverage::survived_by` meets its contract. Assumes nothing.
-use borrow.Author.Rules.{rules}
 use Rattle.coverage.specs.Coverage.{survived_of}
 use Rattle.refusals.proofs.Outcomes.{said}
 use Rattle.coverage.proofs.Entries.{survived_room}

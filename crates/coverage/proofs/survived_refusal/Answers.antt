@@ -1,5 +1,4 @@
 -- `coverage::survived_refusal` meets its contract. Assumes nothing.
-use borrow.Author.Rules.{rules}
 use Rattle.refusals.proofs.Checks.{checks, at_most_64}
 use Rattle.coverage.specs.Coverage.{survived_refusal}
 use Rattle.coverage.proofs.survived_refusal.Goals as goal

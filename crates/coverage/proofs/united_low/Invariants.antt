@@ -1,10 +1,7 @@
-use mathlib.Core.Path.{◌≡◌, refl}
+use mathlib.Core.Path.{◌≡◌}
 use Prim.Native.Nat.{◌≤◌, ◌-◌}
-use native.Mathlib.Omega.{arith}
-use borrow.Author.Rules.{rules}
-use Rattle.rows.specs.Row.{row_of, row_in, low_in}
+use Rattle.rows.specs.Row.{low_in}
 use Rattle.coverage.specs.Coverage.{union_of}
-use Rattle.coverage.proofs.Parts.{unions}
 use Rattle.coverage.proofs.united_low.Given as goal
 
 abbrev pub invariant-loop-s : goal.invariant-loop-s

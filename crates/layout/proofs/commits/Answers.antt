@@ -3,9 +3,8 @@ use mathlib.Core.Path.{◌≡◌, sym, ap, ◌∙◌}
 use mathlib.Core.List.{List, ◌++◌}
 use Prim.Native.Nat.{ℕ, ◌*◌, ◌≤◌}
 use native.Mathlib.Omega.{arith}
-use borrow.Author.Rules.{rules}
 use lib.ListN.{length, take, drop, replicate}
-use Rattle.lists.proofs.Lent.{lent, back, back_room, back_lent, back_enough}
+use Rattle.lists.proofs.Lent.{lent, back, back_enough}
 use Rattle.lists.specs.Below.{front}
 use Rattle.rows.specs.Row.{row_in, spelled}
 use Rattle.coverage.specs.Coverage.{commits}

@@ -1,5 +1,4 @@
 -- `layout::commits_refusal` meets its contract. Assumes nothing.
-use borrow.Author.Rules.{rules}
 use Rattle.refusals.proofs.Checks.{at_most_64}
 use Rattle.layout.specs.Layout.{commits_refusal}
 use Rattle.layout.proofs.Entries.{layout-checks}

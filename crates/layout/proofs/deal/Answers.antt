@@ -1,14 +1,10 @@
 -- `layout::deal` meets its contract. Assumes nothing.
-use mathlib.Core.Path.{◌≡◌, refl, ap, ◌∙◌}
-use mathlib.Core.List.{List}
-use Prim.Native.Nat.{ℕ, ◌+◌, ◌≤◌, ◌-◌}
+use mathlib.Core.Path.{refl}
+use Prim.Native.Nat.{ℕ, ◌+◌}
 use native.Mathlib.Omega.{arith}
 use borrow.Author.Rules.{rules}
-use lib.ListN.{length, take}
-use Rattle.lists.specs.Below.{each_below, front}
-use Rattle.rows.specs.Row.{spelled}
 use Rattle.rows.proofs.TableLoops.{rows_start, rows_more, rows_length}
-use Rattle.layout.specs.Layout.{partial, row_at}
+use Rattle.layout.specs.Layout.{row_at}
 use Rattle.layout.proofs.Loads.{sum_more, sum_small, row_is}
 use Rattle.layout.proofs.deal.Goals as goal
 

@@ -1,14 +1,9 @@
-use mathlib.Core.Path.{◌≡◌, refl, ap, ◌∙◌}
-use mathlib.Core.List.{List}
-use Prim.Native.Nat.{ℕ, ◌+◌, ◌≤◌, ◌-◌}
-use native.Mathlib.Omega.{arith}
-use borrow.Author.Rules.{rules}
+use mathlib.Core.Path.{◌≡◌}
+use Prim.Native.Nat.{◌≤◌, ◌-◌}
 use lib.ListN.{length, take}
 use Rattle.lists.specs.Below.{each_below, front}
 use Rattle.rows.specs.Row.{spelled}
-use Rattle.rows.proofs.TableLoops.{rows_start, rows_more, rows_length}
 use Rattle.layout.specs.Layout.{partial, row_at}
-use Rattle.layout.proofs.Loads.{sum_more, sum_small, row_is}
 use Rattle.layout.proofs.deal.Given as goal
 
 abbrev pub invariant-loop-s : goal.invariant-loop-s

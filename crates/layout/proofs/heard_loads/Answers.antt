@@ -1,10 +1,6 @@
 -- `layout::heard_loads` meets its contract. Assumes nothing.
-use Prim.Native.Nat.{◌-◌}
-use native.Mathlib.Omega.{arith}
-use borrow.Author.Rules.{rules}
-use lib.ListN.{length}
-use Rattle.lists.proofs.BelowLoops.{Filled, filled_none, filled_more, filled_done}
-use Rattle.layout.specs.Layout.{heard_load, heard_loads}
+use Rattle.lists.proofs.BelowLoops.{filled_none, filled_more, filled_done}
+use Rattle.layout.specs.Layout.{heard_loads}
 use Rattle.layout.proofs.heard_loads.Goals as goal
 
 pub loop-s-init : goal.loop-s-init

@@ -1,9 +1,7 @@
 use Prim.Native.Nat.{◌-◌}
-use native.Mathlib.Omega.{arith}
-use borrow.Author.Rules.{rules}
 use lib.ListN.{length}
-use Rattle.lists.proofs.BelowLoops.{Filled, filled_none, filled_more, filled_done}
-use Rattle.layout.specs.Layout.{heard_load, heard_loads}
+use Rattle.lists.proofs.BelowLoops.{Filled}
+use Rattle.layout.specs.Layout.{heard_load}
 use Rattle.layout.proofs.heard_loads.Given as goal
 
 abbrev pub invariant-loop-s : goal.invariant-loop-s

@@ -1,5 +1,4 @@
 -- `layout::lay` meets its contract. Assumes nothing.
-use borrow.Author.Rules.{rules}
 use Rattle.layout.specs.Layout.{rows_of}
 use Rattle.layout.proofs.LayoutLaws.{width_fits}
 use Rattle.layout.proofs.lay.Goals as goal

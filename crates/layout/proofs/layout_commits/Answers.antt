@@ -1,7 +1,6 @@
 -- `layout::layout_commits` meets its contract. Assumes nothing.
 use mathlib.Core.Path.{sym, ◌∙◌}
 use native.Mathlib.Omega.{arith}
-use borrow.Author.Rules.{rules}
 use lib.ListN.{replicate}
 use Rattle.lists.proofs.Lent.{lent, back, back_room, back_lent}
 use Rattle.refusals.proofs.Outcomes.{outcomes, leaves_all}

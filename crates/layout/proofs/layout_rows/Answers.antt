@@ -1,7 +1,6 @@
 -- `layout::layout_rows` meets its contract. Assumes nothing.
 use mathlib.Core.Path.{sym, ◌∙◌}
 use native.Mathlib.Omega.{arith}
-use borrow.Author.Rules.{rules}
 use Rattle.refusals.proofs.Outcomes.{outcomes, leaves_all}
 use Rattle.layout.specs.Layout.{layout_rows_of, rows_written}
 use Rattle.layout.proofs.RefusalLaws.{rows_sound}

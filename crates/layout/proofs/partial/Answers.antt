@@ -1,11 +1,7 @@
 -- `layout::partial` meets its contract. Assumes nothing.
-use mathlib.Core.Path.{◌≡◌, refl}
-use Prim.Native.Nat.{◌≤◌, ◌-◌}
 use native.Mathlib.Omega.{arith}
 use borrow.Author.Rules.{rules}
-use lib.ListN.{length, take}
-use Rattle.layout.specs.Layout.{partial}
-use Rattle.layout.proofs.Loads.{sum_more, sum_small, sum_done}
+use Rattle.layout.proofs.Loads.{sum_more, sum_small}
 use Rattle.layout.proofs.partial.Goals as goal
 
 pub overflow_add-sum : goal.overflow_add-sum

@@ -1,10 +1,7 @@
-use mathlib.Core.Path.{◌≡◌, refl}
+use mathlib.Core.Path.{◌≡◌}
 use Prim.Native.Nat.{◌≤◌, ◌-◌}
-use native.Mathlib.Omega.{arith}
-use borrow.Author.Rules.{rules}
 use lib.ListN.{length, take}
 use Rattle.layout.specs.Layout.{partial}
-use Rattle.layout.proofs.Loads.{sum_more, sum_small, sum_done}
 use Rattle.layout.proofs.partial.Given as goal
 
 abbrev pub invariant-loop-s : goal.invariant-loop-s

@@ -1,6 +1,4 @@
 -- `layout::row_for` meets its contract. Assumes nothing.
-use mathlib.Core.Path.{◌∙◌}
-use borrow.Author.Rules.{rules}
 use borrow.Author.Tests.{lt-ltb, le-ltb}
 use Rattle.layout.specs.Layout.{row_for}
 use Rattle.layout.proofs.row_for.Goals as goal

@@ -1,5 +1,4 @@
 -- `layout::rows_refusal` meets its contract. Assumes nothing.
-use borrow.Author.Rules.{rules}
 use Rattle.layout.specs.Layout.{rows_refusal}
 use Rattle.layout.proofs.Entries.{layout-checks}
 use Rattle.layout.proofs.rows_refusal.Goals as goal

@@ -1,5 +1,4 @@
 -- `layout::width_of` meets its contract. Assumes nothing.
-use borrow.Author.Rules.{rules}
 use Rattle.layout.specs.Layout.{width_of}
 use Rattle.layout.proofs.width_of.Goals as goal
 

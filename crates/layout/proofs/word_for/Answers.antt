@@ -1,5 +1,4 @@
 -- `layout::word_for` meets its contract. Assumes nothing.
-use borrow.Author.Rules.{rules}
 use borrow.Author.Tests.{lt-ltb, le-ltb}
 use Rattle.layout.specs.Layout.{row_for}
 use Rattle.layout.proofs.word_for.Goals as goal

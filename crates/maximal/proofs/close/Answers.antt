@@ -1,9 +1,6 @@
 -- `maximal::close` meets its contract. The loop's invariant: the replicas below b are done. Assumes nothing.
-use Prim.Native.Nat.{◌-◌, ◌≤◌}
 use borrow.Author.Rules.{rules}
-use mathlib.Core.Path.{◌≡◌}
-use lib.ListN.{length}
-use Rattle.maximal.proofs.Passes.{Reached, reached_first, reached_next, reached_last}
+use Rattle.maximal.proofs.Passes.{reached_first, reached_next, reached_last}
 use Rattle.maximal.proofs.close.Goals as goal
 
 pub loop-b-init : goal.loop-b-init

@@ -1,8 +1,7 @@
 use Prim.Native.Nat.{◌-◌, ◌≤◌}
-use borrow.Author.Rules.{rules}
 use mathlib.Core.Path.{◌≡◌}
 use lib.ListN.{length}
-use Rattle.maximal.proofs.Passes.{Reached, reached_first, reached_next, reached_last}
+use Rattle.maximal.proofs.Passes.{Reached}
 use Rattle.maximal.proofs.close.Given as goal
 
 abbrev pub invariant-loop-b : goal.invariant-loop-b

@@ -1,5 +1,4 @@
 -- `maximal::keep` meets its contract. Assumes nothing.
-use borrow.Author.Rules.{rules}
 use Rattle.maximal.proofs.Passes.{maximal_left}
 use Rattle.maximal.proofs.keep.Goals as goal
 

@@ -1,9 +1,7 @@
 -- `maximal::peel` meets its contract. The loop's invariant: the words below k are done, and the others as they were. Assumes nothing.
-use Prim.Native.Nat.{◌-◌, ◌≤◌}
-use mathlib.Core.Path.{◌≡◌, refl}
 use borrow.Author.Rules.{rules}
-use lib.ListN.{length, length-set}
-use Rattle.maximal.proofs.Passes.{Kept, Left, none_kept, one_kept, rest_left, all_kept}
+use lib.ListN.{length-set}
+use Rattle.maximal.proofs.Passes.{one_kept, rest_left, all_kept}
 use Rattle.maximal.proofs.peel.Goals as goal
 
 pub loop-k-preserved : goal.loop-k-preserved

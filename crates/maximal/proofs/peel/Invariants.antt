@@ -1,8 +1,7 @@
 use Prim.Native.Nat.{◌-◌, ◌≤◌}
-use mathlib.Core.Path.{◌≡◌, refl}
-use borrow.Author.Rules.{rules}
-use lib.ListN.{length, length-set}
-use Rattle.maximal.proofs.Passes.{Kept, Left, none_kept, one_kept, rest_left, all_kept}
+use mathlib.Core.Path.{◌≡◌}
+use lib.ListN.{length}
+use Rattle.maximal.proofs.Passes.{Kept, Left}
 use Rattle.maximal.proofs.peel.Given as goal
 
 abbrev pub invariant-loop-k : goal.invariant-loop-k

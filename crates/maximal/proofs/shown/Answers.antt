@@ -1,5 +1,4 @@
 -- `maximal::shown` meets its contract. Assumes nothing.
-use borrow.Author.Rules.{rules}
 use Rattle.maximal.proofs.Passes.{near_shows, far_none, far_past, far_shows}
 use Rattle.maximal.proofs.shown.Goals as goal
 

@@ -1,9 +1,7 @@
 -- `maximal::spread` meets its contract. The loop's invariant: the words below k are done, and the others as they were. Assumes nothing.
-use Prim.Native.Nat.{◌-◌, ◌≤◌}
-use mathlib.Core.Path.{◌≡◌, refl}
 use borrow.Author.Rules.{rules}
-use lib.ListN.{length, length-set}
-use Rattle.maximal.proofs.Passes.{Done, Left, none_done, one_done, one_left, all_done}
+use lib.ListN.{length-set}
+use Rattle.maximal.proofs.Passes.{one_done, one_left, all_done}
 use Rattle.maximal.proofs.spread.Goals as goal
 
 pub loop-k-preserved : goal.loop-k-preserved

@@ -1,8 +1,7 @@
 use Prim.Native.Nat.{◌-◌, ◌≤◌}
-use mathlib.Core.Path.{◌≡◌, refl}
-use borrow.Author.Rules.{rules}
-use lib.ListN.{length, length-set}
-use Rattle.maximal.proofs.Passes.{Done, Left, none_done, one_done, one_left, all_done}
+use mathlib.Core.Path.{◌≡◌}
+use lib.ListN.{length}
+use Rattle.maximal.proofs.Passes.{Done, Left}
 use Rattle.maximal.proofs.spread.Given as goal
 
 abbrev pub invariant-loop-k : goal.invariant-loop-k

@@ -1,7 +1,6 @@
 -- `maximal::tops` meets its contract. The loop's invariant: c has the sets that are shown with a replica below b. Assumes nothing.
-use Prim.Native.Nat.{◌-◌, ◌≤◌}
 use borrow.Author.Rules.{rules}
-use Rattle.maximal.proofs.Passes.{Seen, seen_none, seen_more, seen_all}
+use Rattle.maximal.proofs.Passes.{seen_none, seen_more, seen_all}
 use Rattle.maximal.proofs.tops.Goals as goal
 
 pub loop-b-init : goal.loop-b-init

@@ -1,6 +1,5 @@
 use Prim.Native.Nat.{◌-◌, ◌≤◌}
-use borrow.Author.Rules.{rules}
-use Rattle.maximal.proofs.Passes.{Seen, seen_none, seen_more, seen_all}
+use Rattle.maximal.proofs.Passes.{Seen}
 use Rattle.maximal.proofs.tops.Given as goal
 
 abbrev pub invariant-loop-b : goal.invariant-loop-b

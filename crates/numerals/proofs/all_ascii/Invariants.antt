@@ -1,11 +1,9 @@
-use mathlib.Core.Path.{◌≡◌, refl}
+use mathlib.Core.Path.{◌≡◌}
 use mathlib.Core.Bool.{◌&&◌}
 use Prim.Native.Nat.{◌≤◌, ◌-◌}
-use borrow.Author.Rules.{rules}
 use lib.ListN.{length, drop}
 use Rattle.lists.specs.All.{all}
 use Rattle.numerals.specs.Text.{is_ascii}
-use Rattle.numerals.proofs.Scans.{all_next, all_end}
 use Rattle.numerals.proofs.all_ascii.Given as goal
 
 abbrev pub invariant-loop-i : goal.invariant-loop-i

@@ -1,8 +1,6 @@
-use mathlib.Core.Path.{refl}
 use Prim.Native.Nat.{◌≤◌, ◌-◌}
-use borrow.Author.Rules.{rules}
 use lib.ListN.{length}
-use Rattle.lists.proofs.Loops.{Passed, pass, fail, done}
+use Rattle.lists.proofs.Loops.{Passed}
 use Rattle.numerals.specs.Whole.{is_digit}
 use Rattle.numerals.proofs.all_digits.Given as goal
 

@@ -1,11 +1,7 @@
 -- `numerals::find` meets its contract. Assumes nothing.
-use mathlib.Core.Path.{◌≡◌}
-use Prim.Native.Nat.{◌+◌, ◌≤◌, ◌-◌}
 use native.Mathlib.Omega.{arith}
-use borrow.Author.Rules.{rules}
 use borrow.Author.Tests.{eq-eqb, ne_eqb}
-use lib.ListN.{length, drop}
-use Rattle.numerals.specs.Text.{is_byte, cut}
+use Rattle.numerals.specs.Text.{is_byte}
 use Rattle.numerals.proofs.Scans.{cut_hit, cut_miss, cut_end}
 use Rattle.numerals.proofs.find.Goals as goal
 

@@ -1,11 +1,7 @@
 use mathlib.Core.Path.{◌≡◌}
 use Prim.Native.Nat.{◌+◌, ◌≤◌, ◌-◌}
-use native.Mathlib.Omega.{arith}
-use borrow.Author.Rules.{rules}
-use borrow.Author.Tests.{eq-eqb, ne_eqb}
 use lib.ListN.{length, drop}
-use Rattle.numerals.specs.Text.{is_byte, cut}
-use Rattle.numerals.proofs.Scans.{cut_hit, cut_miss, cut_end}
+use Rattle.numerals.specs.Text.{cut}
 use Rattle.numerals.proofs.find.Given as goal
 
 abbrev pub invariant-loop-i : goal.invariant-loop-i

@@ -1,10 +1,7 @@
-use mathlib.Core.Path.{◌≡◌, refl}
+use mathlib.Core.Path.{◌≡◌}
 use Prim.Native.Nat.{◌≤◌, ◌-◌}
-use native.Mathlib.Omega.{arith}
-use borrow.Author.Rules.{rules}
 use lib.ListN.{take, drop}
-use Rattle.numerals.specs.Text.{is_byte, has_byte}
-use Rattle.numerals.proofs.Scans.{any_next}
+use Rattle.numerals.specs.Text.{has_byte}
 use Rattle.numerals.proofs.has.Given as goal
 
 abbrev pub invariant-loop-j : goal.invariant-loop-j

@@ -1,6 +1,5 @@
 -- `numerals::is_digits` meets its contract. Assumes nothing.
 use borrow.Author.Tests.{eq-eqb, ne_eqb}
-use borrow.Author.Rules.{rules}
 use Rattle.numerals.specs.Whole.{is_digits}
 use Rattle.numerals.proofs.is_digits.Goals as goal
 

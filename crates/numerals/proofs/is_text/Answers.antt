@@ -1,5 +1,4 @@
 -- `numerals::is_text` meets its contract. Assumes nothing.
-use borrow.Author.Rules.{rules}
 use Rattle.refusals.proofs.Checks.{ranges}
 use Rattle.numerals.specs.Text.{is_text}
 use Rattle.numerals.proofs.is_text.Goals as goal

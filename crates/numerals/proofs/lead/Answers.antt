@@ -1,9 +1,6 @@
 -- `numerals::lead` meets its contract. Assumes nothing.
-use mathlib.Core.Path.{refl}
-use Prim.Native.Nat.{◌≤◌, ◌-◌}
 use borrow.Author.Rules.{rules}
-use lib.ListN.{length}
-use Rattle.numerals.proofs.Scans.{Started, start_blank, start_stop, start_end}
+use Rattle.numerals.proofs.Scans.{start_blank, start_stop, start_end}
 use Rattle.numerals.proofs.lead.Goals as goal
 
 pub loop-i-preserved : goal.loop-i-preserved

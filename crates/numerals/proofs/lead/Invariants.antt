@@ -1,8 +1,6 @@
-use mathlib.Core.Path.{refl}
 use Prim.Native.Nat.{◌≤◌, ◌-◌}
-use borrow.Author.Rules.{rules}
 use lib.ListN.{length}
-use Rattle.numerals.proofs.Scans.{Started, start_blank, start_stop, start_end}
+use Rattle.numerals.proofs.Scans.{Started}
 use Rattle.numerals.proofs.lead.Given as goal
 
 abbrev pub invariant-loop-i : goal.invariant-loop-i

@@ -1,7 +1,6 @@
 -- `numerals::read_below` meets its contract. Assumes nothing.
 use mathlib.Core.Path.{sym, ap, ◌∙◌}
 use borrow.Author.Tests.{lt-ltb, le-ltb}
-use borrow.Author.Rules.{rules}
 use Rattle.numerals.specs.Whole.{below_of, whole}
 use Rattle.numerals.proofs.read_below.Goals as goal
 

@@ -1,5 +1,4 @@
 -- `numerals::read_member` meets its contract. Assumes nothing.
-use borrow.Author.Rules.{rules}
 use Rattle.numerals.specs.Whole.{member_of}
 use Rattle.numerals.proofs.read_member.Goals as goal
 

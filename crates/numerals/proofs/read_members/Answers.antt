@@ -1,6 +1,5 @@
 -- `numerals::read_members` meets its contract. Assumes nothing.
-use borrow.Author.Rules.{rules}
-use Rattle.numerals.proofs.Scans.{mask_refused, mask_read}
+use Rattle.numerals.proofs.Scans.{mask_read}
 use Rattle.numerals.proofs.read_members.Goals as goal
 
 pub returns-in-Row : goal.returns-in-Row

@@ -1,12 +1,7 @@
 -- `numerals::read_shards` meets its contract. Assumes nothing.
-use mathlib.Core.Path.{◌≡◌, refl}
-use Prim.Native.Nat.{◌≤◌, ◌-◌}
 use native.Mathlib.Omega.{arith}
 use borrow.Author.Rules.{rules}
-use lib.ListN.{length, drop}
 use Rattle.rows.specs.Row.{row_of}
-use Rattle.numerals.specs.Text.{split}
-use Rattle.numerals.specs.Read.{read_each}
 use Rattle.numerals.proofs.ReadLaws.{read_refused, read_last, read_more}
 use Rattle.numerals.specs.Whole.{member_in, members_of}
 use Rattle.numerals.proofs.Scans.{member_refused, member_read, member_below}

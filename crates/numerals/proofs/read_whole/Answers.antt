@@ -1,10 +1,6 @@
 -- `numerals::read_whole` meets its contract. Assumes nothing.
-use mathlib.Core.Path.{◌≡◌}
-use Prim.Native.Nat.{◌≤◌, ◌-◌}
 use borrow.Author.Rules.{rules}
-use lib.ListN.{length, drop}
-use Rattle.numerals.specs.Whole.{whole_of}
-use Rattle.numerals.proofs.Scans.{capped, whole_empty, whole_start, whole_low, whole_high, whole_next, whole_over, whole_end}
+use Rattle.numerals.proofs.Scans.{whole_empty, whole_start, whole_low, whole_high, whole_next, whole_over, whole_end}
 use Rattle.numerals.proofs.read_whole.Goals as goal
 
 pub returns-then-u-eq0 : goal.returns-then-u-eq0

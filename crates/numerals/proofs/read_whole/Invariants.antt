@@ -1,9 +1,8 @@
 use mathlib.Core.Path.{◌≡◌}
 use Prim.Native.Nat.{◌≤◌, ◌-◌}
-use borrow.Author.Rules.{rules}
 use lib.ListN.{length, drop}
 use Rattle.numerals.specs.Whole.{whole_of}
-use Rattle.numerals.proofs.Scans.{capped, whole_empty, whole_start, whole_low, whole_high, whole_next, whole_over, whole_end}
+use Rattle.numerals.proofs.Scans.{capped}
 use Rattle.numerals.proofs.read_whole.Given as goal
 
 abbrev pub invariant-loop-i : goal.invariant-loop-i

@@ -1,9 +1,6 @@
 -- `numerals::same` meets its contract. Assumes nothing.
-use mathlib.Core.Path.{◌≡◌, refl}
-use Prim.Native.Nat.{◌≤◌, ◌-◌}
 use borrow.Author.Rules.{rules}
-use lib.ListN.{length}
-use Rattle.numerals.proofs.Scans.{Same, same_next, same_differ, same_end, same_lengths}
+use Rattle.numerals.proofs.Scans.{same_next, same_differ, same_end, same_lengths}
 use Rattle.numerals.proofs.same.Goals as goal
 
 pub returns-then-s-t : goal.returns-then-s-t

@@ -1,8 +1,7 @@
-use mathlib.Core.Path.{◌≡◌, refl}
+use mathlib.Core.Path.{◌≡◌}
 use Prim.Native.Nat.{◌≤◌, ◌-◌}
-use borrow.Author.Rules.{rules}
 use lib.ListN.{length}
-use Rattle.numerals.proofs.Scans.{Same, same_next, same_differ, same_end, same_lengths}
+use Rattle.numerals.proofs.Scans.{Same}
 use Rattle.numerals.proofs.same.Given as goal
 
 abbrev pub invariant-loop-i : goal.invariant-loop-i

@@ -1,10 +1,8 @@
 -- `numerals::skip` meets its contract. Assumes nothing.
-use mathlib.Core.Path.{◌≡◌, sym, ◌∙◌}
-use Prim.Native.Nat.{◌+◌, ◌≤◌, ◌-◌}
+use mathlib.Core.Path.{sym, ◌∙◌}
 use native.Mathlib.Omega.{arith}
 use borrow.Author.Rules.{rules}
-use lib.ListN.{length, drop}
-use Rattle.numerals.specs.Text.{is_byte, cut}
+use Rattle.numerals.specs.Text.{is_byte}
 use Rattle.numerals.proofs.Scans.{cut_over}
 use Rattle.numerals.proofs.skip.Goals as goal
 

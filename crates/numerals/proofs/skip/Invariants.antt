@@ -1,10 +1,7 @@
-use mathlib.Core.Path.{◌≡◌, sym, ◌∙◌}
+use mathlib.Core.Path.{◌≡◌}
 use Prim.Native.Nat.{◌+◌, ◌≤◌, ◌-◌}
-use native.Mathlib.Omega.{arith}
-use borrow.Author.Rules.{rules}
 use lib.ListN.{length, drop}
-use Rattle.numerals.specs.Text.{is_byte, cut}
-use Rattle.numerals.proofs.Scans.{cut_over}
+use Rattle.numerals.specs.Text.{cut}
 use Rattle.numerals.proofs.skip.Given as goal
 
 abbrev pub invariant-loop-i : goal.invariant-loop-i

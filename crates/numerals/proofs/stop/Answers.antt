@@ -1,11 +1,6 @@
 -- `numerals::stop` meets its contract. Assumes nothing.
-use mathlib.Core.Path.{sym, ap}
-use Prim.Native.Nat.{◌≤◌}
 use borrow.Author.Rules.{rules}
-use lib.ListN.{length}
-use lib.Seq.{take-length}
-use Rattle.numerals.specs.Text.{trim_end}
-use Rattle.numerals.proofs.Scans.{Ended, end_blank, end_stop, end_end}
+use Rattle.numerals.proofs.Scans.{end_blank, end_stop, end_end}
 use Rattle.numerals.proofs.stop.Goals as goal
 
 pub loop-e-preserved : goal.loop-e-preserved

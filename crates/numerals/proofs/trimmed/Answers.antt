@@ -1,6 +1,5 @@
 -- `numerals::trimmed` meets its contract. Assumes nothing.
 use mathlib.Core.Path.{ap, ◌∙◌}
-use borrow.Author.Rules.{rules}
 use Rattle.numerals.specs.Text.{trim_end, trim}
 use Rattle.numerals.proofs.trimmed.Goals as goal
 

@@ -1,5 +1,4 @@
 -- `numerals::unplussed` meets its contract. Assumes nothing.
-use borrow.Author.Rules.{rules}
 use borrow.Author.Tests.{eq-eqb, ne_eqb}
 use Rattle.numerals.specs.Text.{is_byte}
 use Rattle.numerals.proofs.Scans.{without_none, without_first, without_kept}

@@ -3,7 +3,7 @@ use mathlib.Core.Path.{◌≡◌, sym, ap, ◌∙◌}
 use native.Mathlib.Omega.{arith}
 use borrow.Author.Rules.{rules}
 use lib.ListN.{length}
-use lib.Seq.{length-take-le, take_all}
+use lib.Seq.{take_all}
 use Rattle.lists.specs.All.{all}
 use Rattle.refusals.specs.Limits.{is_mask}
 use Rattle.profiles.specs.Profile.{domains_fit}

@@ -1,10 +1,6 @@
 -- `profiles::probs_fit` meets its contract. Assumes nothing.
-use mathlib.Core.Path.{◌≡◌, sym, ◌∙◌}
-use native.Mathlib.Omega.{arith}
-use borrow.Author.Rules.{rules}
+use mathlib.Core.Path.{sym, ◌∙◌}
 use borrow.Author.Tests.{eq-eqb, ne_eqb, not-true, not-false}
-use lib.ListN.{length}
-use lib.Seq.{length-take-le}
 use Rattle.profiles.specs.Profile.{probs_fit}
 use Rattle.std.proofs.lemmas.Bool.{not_from_false, not_from_true}
 use Rattle.profiles.proofs.probs_fit.Goals as goal

@@ -1,5 +1,4 @@
 -- `profiles::profile_refusal` meets its contract. Assumes nothing.
-use borrow.Author.Rules.{rules}
 use Rattle.refusals.proofs.Checks.{checks}
 use Rattle.profiles.specs.Profile.{domains_counted}
 use Rattle.profiles.proofs.profile_refusal.Goals as goal

@@ -1,5 +1,4 @@
 -- `profiles::unreliability` meets its contract. Assumes nothing.
-use borrow.Author.Rules.{rules}
 use Rattle.refusals.proofs.Outcomes.{outcomes}
 use Rattle.profiles.specs.Unreliability.{unreliability_of}
 use Rattle.profiles.proofs.Sound.{peer_room}

@@ -1,5 +1,4 @@
 -- `profiles::unreliability_refusal` meets its contract. Assumes nothing.
-use borrow.Author.Rules.{rules}
 use Rattle.refusals.proofs.Checks.{checks, at_most_16}
 use Rattle.profiles.specs.Unreliability.{unreliability_refusal}
 use Rattle.profiles.proofs.unreliability_refusal.Goals as goal

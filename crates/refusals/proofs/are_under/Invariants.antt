@@ -1,10 +1,7 @@
-use mathlib.Core.Path.{refl}
 use Prim.Native.Nat.{◌≤◌, ◌-◌}
-use borrow.Author.Rules.{rules}
 use lib.ListN.{length}
-use Rattle.lists.proofs.Loops.{Passed, done}
+use Rattle.lists.proofs.Loops.{Passed}
 use Rattle.refusals.specs.Limits.{is_under}
-use Rattle.refusals.proofs.Checks.{under_pass, under_fail}
 use Rattle.refusals.proofs.are_under.Given as goal
 
 abbrev pub invariant-loop-i : goal.invariant-loop-i

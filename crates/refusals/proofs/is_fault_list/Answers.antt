@@ -1,7 +1,6 @@
 -- `refusals::is_fault_list` meets its contract. Assumes nothing.
 use mathlib.Core.Path.{ap, ◌∙◌}
 use Prim.Native.Nat.{ℕ}
-use borrow.Author.Rules.{rules}
 use borrow.Author.Tests.{eq-eqb, ne_eqb}
 use Rattle.lists.specs.All.{all}
 use Rattle.lists.specs.AllLaws.{all_same}
