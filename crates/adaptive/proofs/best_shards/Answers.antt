@@ -9,14 +9,12 @@ use Rattle.adaptive.proofs.best_shards.Goals as goal
 pub overflow_add-result : goal.overflow_add-result
 unfolding best_shards
 overflow_add-result c =
-    let s = c in
-    omega (arith, best_small _ _ _ _ _ _ _ _ s.requires.n_nonzero.4 s.requires.n_nonzero.7 _ c.best_step-i.ensures)
+    omega (arith, best_small _ _ _ _ _ _ _ _ c.requires.n_nonzero.4 c.requires.n_nonzero.7 _ c.best_step-i.ensures)
 
 pub overflow_mul-result : goal.overflow_mul-result
 unfolding best_shards
 overflow_mul-result c =
-    let s = c in
-    omega (arith, best_le _ _ _ _ _ _ _ _ s.requires.n_nonzero.4 s.requires.n_nonzero.7 _ c.best_step-i.ensures)
+    omega (arith, best_le _ _ _ _ _ _ _ _ c.requires.n_nonzero.4 c.requires.n_nonzero.7 _ c.best_step-i.ensures)
 
 pub returns-then-adaptive : goal.returns-then-adaptive
 unfolding best_shards

@@ -14,14 +14,11 @@ returns-then-no-ne0 c =
 pub floor_of-requires : goal.floor_of-requires
 unfolding min_shards_of
 floor_of-requires c =
-    let i = c in
-    let s = (floor_sound _ _ _ _ _).0 (sym i.floor_refusal-no.ensures ∙ i.if-no-ne0.false) in
+    let s = (floor_sound _ _ _ _ _).0 (sym c.floor_refusal-no.ensures ∙ c.if-no-ne0.false) in
     (omega (arith, s.tolerance, s.population), s.shards.1, s.enough.0, omega (arith, s.enough, s.population))
 
 pub returns : goal.returns
 unfolding min_shards_of
 returns c =
-    let k = c in
-    let i = k in
-    let a = i.args in
-    is_accepted _ _ _ _ i.floor_refusal-no.ensures i.if-no-ne0.false (c.floor_of.ensures ∙ ap (floor_of a.f a.d a.majority) k.count.ensures)
+    let a = c.args in
+    is_accepted _ _ _ _ c.floor_refusal-no.ensures c.if-no-ne0.false (c.floor_of.ensures ∙ ap (floor_of a.f a.d a.majority) c.count.ensures)

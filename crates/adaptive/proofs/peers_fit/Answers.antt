@@ -12,22 +12,16 @@ loop-p-init c =
 
 pub returns-then-is_overfull : goal.returns-then-is_overfull
 returns-then-is_overfull c =
-    let o = c in
-    let g = o in
-    let l = g in
-    let a = l.args in
-    overfull_found a.own.0 (in_flight a.inflight.now) a.n l.loop-p.p _ g.loop-p-test.true
-    (o.is_overfull.ensures ∙ ap (is_overfull a.own.0 l.loop-p.p) g.word_at.ensures) c.if-is_overfull.true
+    let a = c.args in
+    overfull_found a.own.0 (in_flight a.inflight.now) a.n c.loop-p.p _ c.loop-p-test.true
+    (c.is_overfull.ensures ∙ ap (is_overfull a.own.0 c.loop-p.p) c.word_at.ensures) c.if-is_overfull.true
 
 pub loop-p-preserved : goal.loop-p-preserved
 loop-p-preserved c =
-    let o = c in
-    let g = o in
-    let l = g in
-    let a = l.args in (
+    let a = c.args in (
       search rules,
-      none_more a.own.0 (in_flight a.inflight.now) a.n l.loop-p.p _ l.loop-p.invariant.1
-          (o.is_overfull.ensures ∙ ap (is_overfull a.own.0 l.loop-p.p) g.word_at.ensures) c.if-is_overfull.false,
+      none_more a.own.0 (in_flight a.inflight.now) a.n c.loop-p.p _ c.loop-p.invariant.1
+          (c.is_overfull.ensures ∙ ap (is_overfull a.own.0 c.loop-p.p) c.word_at.ensures) c.if-is_overfull.false,
     )
 
 pub returns : goal.returns

@@ -10,12 +10,11 @@ returns-then-no-ne0 c =
 
 pub returns-then-not-balanced : goal.returns-then-not-balanced
 returns-then-not-balanced c =
-    let i = c in unbalanced _ _ _ _ _ _ _ _ _ _ _ _ _ i.policy_refusal-no.ensures i.if-no-ne0.false _ _ (not_from_false _ c.if-not-balanced.true)
+    unbalanced _ _ _ _ _ _ _ _ _ _ _ _ _ c.policy_refusal-no.ensures c.if-no-ne0.false _ _ (not_from_false _ c.if-not-balanced.true)
 
 pub best_shards-best-requires : goal.best_shards-best-requires
 best_shards-best-requires c =
-    let i = c in
-    let s = tested _ _ _ _ _ _ _ _ _ _ _ _ _ i.policy_refusal-no.ensures i.if-no-ne0.false in record {
+    let s = tested _ _ _ _ _ _ _ _ _ _ _ _ _ c.policy_refusal-no.ensures c.if-no-ne0.false in record {
       n_nonzero = (
         omega (arith, s.population),
         s.population.1,
@@ -33,27 +32,19 @@ best_shards-best-requires c =
 
 pub floor_of-requires : goal.floor_of-requires
 floor_of-requires c =
-    let i = c in
-    let s = tested _ _ _ _ _ _ _ _ _ _ _ _ _ i.policy_refusal-no.ensures i.if-no-ne0.false in
+    let s = tested _ _ _ _ _ _ _ _ _ _ _ _ _ c.policy_refusal-no.ensures c.if-no-ne0.false in
     (omega (arith, s.tolerance, s.population), omega (arith, s.shards), s.enough.0, omega (arith, s.enough, s.population))
 
 pub has_count-requires : goal.has_count-requires
 has_count-requires c =
-    let i = c in
-    (tested _ _ _ _ _ _ _ _ _ _ _ _ _ i.policy_refusal-no.ensures i.if-no-ne0.false).enough.0
+    (tested _ _ _ _ _ _ _ _ _ _ _ _ _ c.policy_refusal-no.ensures c.if-no-ne0.false).enough.0
 
 pub returns-then-has_count : goal.returns-then-has_count
 returns-then-has_count c =
-    let l = c in
-    let k = l in
-    let u = k in
-    counted _ _ _ _ _ _ _ _ _ _ _ _ _ u.policy_refusal-no.ensures u.if-no-ne0.false _ _ (not_from_true _ u.if-not-balanced.false) k.best_shards-best.ensures l.floor_of.ensures
-    k.count.ensures l.larger-shards.ensures c.has_count.ensures c.if-has_count.true
+    counted _ _ _ _ _ _ _ _ _ _ _ _ _ c.policy_refusal-no.ensures c.if-no-ne0.false _ _ (not_from_true _ c.if-not-balanced.false) c.best_shards-best.ensures c.floor_of.ensures
+    c.count.ensures c.larger-shards.ensures c.has_count.ensures c.if-has_count.true
 
 pub returns : goal.returns
 returns c =
-    let l = c in
-    let k = l in
-    let u = k in
-    uncounted _ _ _ _ _ _ _ _ _ _ _ _ _ u.policy_refusal-no.ensures u.if-no-ne0.false _ _ (not_from_true _ u.if-not-balanced.false) k.best_shards-best.ensures l.floor_of.ensures
-    k.count.ensures l.larger-shards.ensures c.has_count.ensures c.if-has_count.false
+    uncounted _ _ _ _ _ _ _ _ _ _ _ _ _ c.policy_refusal-no.ensures c.if-no-ne0.false _ _ (not_from_true _ c.if-not-balanced.false) c.best_shards-best.ensures c.floor_of.ensures
+    c.count.ensures c.larger-shards.ensures c.has_count.ensures c.if-has_count.false

@@ -61,13 +61,11 @@ returns-then-not-is_mask c =
 
 pub is_balanced_table-requires : goal.is_balanced_table-requires
 unfolding policy_refusal
-is_balanced_table-requires c =
-    let q = c in
-    let h = q in (
-      search at_most_16,
-      small_shards _ _ _ h.is_shards.ensures (not_from_true _ h.if-not-is_shards.false),
-      some_majority _ _ _ q.is_quorum.ensures (not_from_true _ q.if-not-is_quorum.false),
-    )
+is_balanced_table-requires c = (
+  search at_most_16,
+  small_shards _ _ _ c.is_shards.ensures (not_from_true _ c.if-not-is_shards.false),
+  some_majority _ _ _ c.is_quorum.ensures (not_from_true _ c.if-not-is_quorum.false),
+)
 
 pub returns-then-not-are_rows : goal.returns-then-not-are_rows
 unfolding policy_refusal

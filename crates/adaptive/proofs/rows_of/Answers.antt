@@ -12,12 +12,9 @@ returns-in-Refused c =
 pub returns-in-Initial : goal.returns-in-Initial
 unfolding spelled
 returns-in-Initial c =
-    let w = c in
-    initial_taken _ _ _ _ w.args.initial.now w.args.table.now w.requires c.in-Initial.is (λ i. (w.shared_slice_known-1.given i).fits)
+    initial_taken _ _ _ _ c.args.initial.now c.args.table.now c.requires c.in-Initial.is (λ i. (c.shared_slice_known-1.given i).fits)
 
 pub returns-in-Balanced : goal.returns-in-Balanced
 unfolding spelled
 returns-in-Balanced c =
-    let w = c in
-    let s = w in
-    part_taken _ _ _ _ s.args.initial.now s.args.table.now s.requires _ c.in-Balanced.is (λ i. (w.shared_slice_known-2-1.given i).fits) _ c.rows_from.ensures
+    part_taken _ _ _ _ c.args.initial.now c.args.table.now c.requires _ c.in-Balanced.is (λ i. (c.shared_slice_known-2-1.given i).fits) _ c.rows_from.ensures

@@ -15,15 +15,13 @@ returns-then-no-ne0 c =
 pub run-requires : goal.run-requires
 unfolding full_copies_of copies_written
 run-requires c =
-    let i = c in
-    let s = (copies_sound _ _ _ _).0 (sym i.copies_refusal-no.ensures ∙ i.if-no-ne0.false) in
+    let s = (copies_sound _ _ _ _).0 (sym c.copies_refusal-no.ensures ∙ c.if-no-ne0.false) in
     omega (arith, s.shards)
 
 pub fill-requires : goal.fill-requires
 unfolding full_copies_of copies_written
 fill-requires c =
-    let i = c in
-    let s = (copies_sound _ _ _ _).0 (sym i.copies_refusal-no.ensures ∙ i.if-no-ne0.false) in
+    let s = (copies_sound _ _ _ _).0 (sym c.copies_refusal-no.ensures ∙ c.if-no-ne0.false) in
     omega (arith, s.table)
 
 pub returns : goal.returns

@@ -4,7 +4,4 @@ use Rattle.assignment.proofs.loads_for.Goals as goal
 
 pub returns : goal.returns
 returns c =
-    let m = c in
-    let y = m in
-    let l = y in
-    record { mask = l.loads_at-answered.ensures.mask; loads = loads_trimmed _ _ _ _ _ _ _ _ l.loads_at-answered.ensures.mask y.trim_order-order.ensures.1 l.loads_at-answered.ensures.loads m.trim.ensures }
+    record { mask = c.loads_at-answered.ensures.mask; loads = loads_trimmed _ _ _ _ _ _ _ _ c.loads_at-answered.ensures.mask c.trim_order-order.ensures.1 c.loads_at-answered.ensures.loads c.trim.ensures }

@@ -17,25 +17,19 @@ shard_length-requires c =
 
 pub fill_times-requires : goal.fill_times-requires
 fill_times-requires c =
-    let st = c in
-    let a = st.args in
-    let s = tested _ _ _ _ _ _ _ _ _ 0 (sym st.requires.0) refl in
+    let a = c.args in
+    let s = tested _ _ _ _ _ _ _ _ _ 0 (sym c.requires.0) refl in
     let d : a.d ≤ most_shards = omega (arith, s.shards) in
     let l = shard_length_le a.size a.d (omega (arith, s.shards)) s.small in
-    record { d_le_most_shards = (d, omega (arith, l, c.shard_length.ensures), s.population.1, st.requires.1); peers_in_bounds = s.in_flight_fits }
+    record { d_le_most_shards = (d, omega (arith, l, c.shard_length.ensures), s.population.1, c.requires.1); peers_in_bounds = s.in_flight_fits }
 
 pub plan-requires : goal.plan-requires
 plan-requires c =
-    let f = c in
-    let st = f in
-    let s = tested _ _ _ _ _ _ _ _ _ 0 (sym st.requires.0) refl in
-    (s.shards, s.population.1, omega (arith, f.fill_times.auto.times, st.requires.1), s.table)
+    let s = tested _ _ _ _ _ _ _ _ _ 0 (sym c.requires.0) refl in
+    (s.shards, s.population.1, omega (arith, c.fill_times.auto.times, c.requires.1), s.table)
 
 pub returns : goal.returns
 returns c =
-    let o = c in
-    let f = o in
-    let st = f in
-    let a = st.args in
-    let p = pick_is _ _ _ _ _ _ _ _ _ 0 (sym st.requires.0) refl a.penalty f.shard_length.ensures f.fill_times.ensures in
-    record { answer = o.plan.ensures.answer ∙ p; words = o.plan.ensures.words ∙ ap (λ (x : Outcome (Option Plan)). planned x a.rows.now) p }
+    let a = c.args in
+    let p = pick_is _ _ _ _ _ _ _ _ _ 0 (sym c.requires.0) refl a.penalty c.shard_length.ensures c.fill_times.ensures in
+    record { answer = c.plan.ensures.answer ∙ p; words = c.plan.ensures.words ∙ ap (λ (x : Outcome (Option Plan)). planned x a.rows.now) p }

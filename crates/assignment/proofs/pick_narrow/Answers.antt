@@ -9,24 +9,20 @@ use Rattle.assignment.proofs.pick_narrow.Goals as goal
 
 pub overflow_mul-m : goal.overflow_mul-m
 overflow_mul-m c =
-    let s = c in
-    let h = table_room _ _ _ _ _ _ _ _ _ 0 (sym s.requires.0) refl 64 s.requires.1 in
+    let h = table_room _ _ _ _ _ _ _ _ _ 0 (sym c.requires.0) refl 64 c.requires.1 in
     omega (arith, h)
 
 pub slice_bounds-table-end : goal.slice_bounds-table-end
 slice_bounds-table-end c =
-    let s = c in
-    let h = table_room _ _ _ _ _ _ _ _ _ 0 (sym s.requires.0) refl 64 s.requires.1 in
+    let h = table_room _ _ _ _ _ _ _ _ _ 0 (sym c.requires.0) refl 64 c.requires.1 in
     h
 
 pub slice_bounds-pick_in-end : goal.slice_bounds-pick_in-end
 slice_bounds-pick_in-end c =
-    let s = c in
-    let h = table_room _ _ _ _ _ _ _ _ _ 0 (sym s.requires.0) refl 64 s.requires.1 in
+    let h = table_room _ _ _ _ _ _ _ _ _ 0 (sym c.requires.0) refl 64 c.requires.1 in
     lent {A = Float} _ _ h
 
 pub pick_in-requires : goal.pick_in-requires
 pick_in-requires c =
-    let s = c in
-    let h = table_room _ _ _ _ _ _ _ _ _ 0 (sym s.requires.0) refl 64 s.requires.1 in
-    (s.requires.0, sym (lent {A = Float} _ _ h) ∙ begins s.args.n s.args.d)
+    let h = table_room _ _ _ _ _ _ _ _ _ 0 (sym c.requires.0) refl 64 c.requires.1 in
+    (c.requires.0, sym (lent {A = Float} _ _ h) ∙ begins c.args.n c.args.d)

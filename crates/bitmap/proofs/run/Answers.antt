@@ -12,4 +12,4 @@ returns-then-k-eq0 c =
 pub returns : goal.returns
 unfolding gather
 returns c =
-    let s = c in ones_shl 64 s.args.a s.args.k s.requires
+    ones_shl 64 c.args.a c.args.k c.requires

@@ -5,4 +5,4 @@ use Rattle.c_types.proofs.opening.Goals as goal
 pub returns : goal.returns
 unfolding to_opening
 returns c =
-    let u = c in rw (u.to_tally-u.ensures, u.word_of.ensures)
+    rw (c.to_tally-u.ensures, c.word_of.ensures)

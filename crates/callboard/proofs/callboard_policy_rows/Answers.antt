@@ -8,10 +8,7 @@ rows_of-requires c =
 
 pub returns : goal.returns
 returns c =
-    let p = c in
-    let o = p in
-    let y = o.policy-choice.ensures in
-    let i = o in
-    let l = i.is_table-lent.ensures in
-    let a = i.args in
-    record { answer = rw (c.chosen.ensures, y, l); words = rows_left_are a.n a.f a.own a.d a.w a.majority a.size a.adaptive a.balanced a.models.now a.inflight.now a.alive a.init.now a.table.now a.rows.now l y o.rows_of.ensures p.copy_part.ensures }
+    let y = c.policy-choice.ensures in
+    let l = c.is_table-lent.ensures in
+    let a = c.args in
+    record { answer = rw (c.chosen.ensures, y, l); words = rows_left_are a.n a.f a.own a.d a.w a.majority a.size a.adaptive a.balanced a.models.now a.inflight.now a.alive a.init.now a.table.now a.rows.now l y c.rows_of.ensures c.copy_part.ensures }

@@ -4,6 +4,4 @@ use Rattle.callboard.proofs.policy.Goals as goal
 
 pub returns : goal.returns
 returns c =
-    let a = c in
-    let t = a in
-    rw (policy_in_is, c.fitting.ensures, a.pick_assignment_policy.ensures, t.is_set-2.ensures, t.is_set.ensures)
+    rw (policy_in_is, c.fitting.ensures, c.pick_assignment_policy.ensures, c.is_set-2.ensures, c.is_set.ensures)

@@ -11,9 +11,7 @@ use Rattle.candidates.proofs.commits_at.Goals as goal
 pub returns : goal.returns
 unfolding commits_at
 returns c =
-    let y = c in
-    let s = y in
-    let a = s.args in
+    let a = c.args in
     c.commits.ensures
-    ∙ ap₂ (λ (m : ℕ) (l : List ℕ). layout_commits a.n a.quorum a.d a.total m a.faults.now l) y.loads_at-answered.ensures.mask
-    (back {A = ℕ} a.n (replicate 16 0) s.requires.1 y.loads_at-answered.new.loads y.loads_at-answered.auto.loads ∙ y.loads_at-answered.ensures.loads)
+    ∙ ap₂ (λ (m : ℕ) (l : List ℕ). layout_commits a.n a.quorum a.d a.total m a.faults.now l) c.loads_at-answered.ensures.mask
+    (back {A = ℕ} a.n (replicate 16 0) c.requires.1 c.loads_at-answered.new.loads c.loads_at-answered.auto.loads ∙ c.loads_at-answered.ensures.loads)

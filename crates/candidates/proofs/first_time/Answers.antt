@@ -16,27 +16,23 @@ use Rattle.candidates.proofs.first_time.Goals.{then-not-is_repeat, else-not-is_r
 pub loop-i-preserved : goal.loop-i-preserved
 unfolding first_time
 loop-i-preserved c =
-    let r = c in
-    let l = r in
-    let k = l in
-    let a = k.args in
+    let a = c.args in
     let t = commits_at a.n a.own.0 a.quorum a.d a.total a.faults.now a.times.now in
-    let h : l.loop-i.i < length a.times.now = r.loop-i-test.true in
-    let b = found l.loop-i.best in
-    let e : found c.if-not-is_repeat.best ≡ step t b (get_or a.times.now l.loop-i.i nan) = elim c.if-not-is_repeat.branch [
+    let h : c.loop-i.i < length a.times.now = c.loop-i-test.true in
+    let b = found c.loop-i.best in
+    let e : found c.if-not-is_repeat.best ≡ step t b (get_or a.times.now c.loop-i.i nan) = elim c.if-not-is_repeat.branch [
       | then-not-is_repeat w ↦ ap found w.best-is ∙ w.consider-best.ensures
-      | else-not-is_repeat w ↦ ap found w.best-is ∙ repeated t a.times.now (λ i h. c.type_inv.times i) b l.loop-i.i h l.loop-i.invariant.2 a.d (sym r.is_repeat.ensures ∙ w.if-not-is_repeat.false)
+      | else-not-is_repeat w ↦ ap found w.best-is ∙ repeated t a.times.now (λ i h. c.type_inv.times i) b c.loop-i.i h c.loop-i.invariant.2 a.d (sym c.is_repeat.ensures ∙ w.if-not-is_repeat.false)
     ] in (
       omega arith,
-      ap (λ (o : Option Float). foldl (step t) o (drop (l.loop-i.i + 1) a.times.now)) e ∙ fold_step (step t) b a.times.now l.loop-i.i nan h ∙ l.loop-i.invariant.1,
-      subst (λ (o : Option Float). Settled t a.times.now o (l.loop-i.i + 1)) (sym e) (more_settled t a.times.now b l.loop-i.i l.loop-i.invariant.2),
+      ap (λ (o : Option Float). foldl (step t) o (drop (c.loop-i.i + 1) a.times.now)) e ∙ fold_step (step t) b a.times.now c.loop-i.i nan h ∙ c.loop-i.invariant.1,
+      subst (λ (o : Option Float). Settled t a.times.now o (c.loop-i.i + 1)) (sym e) (more_settled t a.times.now b c.loop-i.i c.loop-i.invariant.2),
     )
 
 pub returns : goal.returns
 unfolding first_time
 returns c =
-    let l = c in
-    let a = l.args in
+    let a = c.args in
     let t = commits_at a.n a.own.0 a.quorum a.d a.total a.faults.now a.times.now in
-    sym (fold_done (step t) (found l.loop-i.best) a.times.now l.loop-i.i c.loop-i-test.false) ∙ l.loop-i.invariant.1
+    sym (fold_done (step t) (found c.loop-i.best) a.times.now c.loop-i.i c.loop-i-test.false) ∙ c.loop-i.invariant.1
     ∙ least_found t a.times.now

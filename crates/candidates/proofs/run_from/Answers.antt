@@ -12,23 +12,21 @@ use Rattle.candidates.proofs.run_from.Goals as goal
 
 pub loop-k-preserved : goal.loop-k-preserved
 loop-k-preserved c =
-    let l = c in
-    let a = l.args in
-    let h : l.loop-k.k < suc a.d = omega arith in
-    let i : a.from + l.loop-k.k < length a.times.now = omega arith in (
+    let a = c.args in
+    let h : c.loop-k.k < suc a.d = omega arith in
+    let i : a.from + c.loop-k.k < length a.times.now = omega arith in (
       omega arith,
-      run_on (in_time_from a.times.now a.t a.from) (suc a.d) l.loop-k.k _ h l.loop-k.invariant.1
-          (ap (λ (x : Float). le x a.t) (inside_any a.times.now (a.from + l.loop-k.k) nan never i)) c.if-times-from.true,
+      run_on (in_time_from a.times.now a.t a.from) (suc a.d) c.loop-k.k _ h c.loop-k.invariant.1
+          (ap (λ (x : Float). le x a.t) (inside_any a.times.now (a.from + c.loop-k.k) nan never i)) c.if-times-from.true,
     )
 
 pub returns-else-times-from : goal.returns-else-times-from
 returns-else-times-from c =
-    let l = c in
-    let a = l.args in
-    let h : l.loop-k.k < suc a.d = omega arith in
-    let i : a.from + l.loop-k.k < length a.times.now = omega arith in
-    run_stop (in_time_from a.times.now a.t a.from) (suc a.d) l.loop-k.k _ h l.loop-k.invariant.1
-    (ap (λ (x : Float). le x a.t) (inside_any a.times.now (a.from + l.loop-k.k) nan never i)) c.if-times-from.false
+    let a = c.args in
+    let h : c.loop-k.k < suc a.d = omega arith in
+    let i : a.from + c.loop-k.k < length a.times.now = omega arith in
+    run_stop (in_time_from a.times.now a.t a.from) (suc a.d) c.loop-k.k _ h c.loop-k.invariant.1
+    (ap (λ (x : Float). le x a.t) (inside_any a.times.now (a.from + c.loop-k.k) nan never i)) c.if-times-from.false
 
 pub returns : goal.returns
 returns c =

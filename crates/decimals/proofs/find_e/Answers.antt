@@ -7,13 +7,11 @@ use Rattle.decimals.proofs.find_e.Goals as goal
 
 pub returns-then-is_e : goal.returns-then-is_e
 returns-then-is_e c =
-    let l = c in
-    cut_hit is_e _ _ _ l.loop-i.invariant.1 l.loop-i-test.true (sym c.is_e.ensures ∙ c.if-is_e.true)
+    cut_hit is_e _ _ _ c.loop-i.invariant.1 c.loop-i-test.true (sym c.is_e.ensures ∙ c.if-is_e.true)
 
 pub loop-i-preserved : goal.loop-i-preserved
 loop-i-preserved c =
-    let l = c in
-    (omega arith, cut_miss is_e _ _ _ l.loop-i.invariant.1 l.loop-i-test.true (sym c.is_e.ensures ∙ c.if-is_e.false))
+    (omega arith, cut_miss is_e _ _ _ c.loop-i.invariant.1 c.loop-i-test.true (sym c.is_e.ensures ∙ c.if-is_e.false))
 
 pub returns : goal.returns
 returns c =

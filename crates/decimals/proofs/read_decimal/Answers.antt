@@ -40,10 +40,5 @@ read_parts-requires c =
 
 pub returns : goal.returns
 returns c =
-    let n = c in
-    let q = n in
-    let p = q in
-    let x = p in
-    let u = x in
     c.read_parts.ensures
-    ∙ reads _ u.unsigned-u.ensures u.find_e-c.ensures x.upto-m.ensures x.past-x.ensures p.find-p.ensures q.upto-i.ensures q.past-f.ensures q.unsigned-q.ensures n.is_negative.ensures c.is_negative-2.ensures
+    ∙ reads _ c.unsigned-u.ensures c.find_e-c.ensures c.upto-m.ensures c.past-x.ensures c.find-p.ensures c.upto-i.ensures c.past-f.ensures c.unsigned-q.ensures c.is_negative.ensures c.is_negative-2.ensures

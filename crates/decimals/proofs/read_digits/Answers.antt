@@ -6,11 +6,9 @@ use Rattle.decimals.proofs.read_digits.Goals as goal
 
 pub loop-i-preserved : goal.loop-i-preserved
 loop-i-preserved c =
-    let d = c in
-    let l = d in
-    let a = l.args in
-    let h = d.loop-i-test.true in
-    (omega arith, search all_next, rw c.wide.ensures (spelling_next a.v l.loop-i.w l.loop-i.i a.s.now l.loop-i.invariant.2 h))
+    let a = c.args in
+    let h = c.loop-i-test.true in
+    (omega arith, search all_next, rw c.wide.ensures (spelling_next a.v c.loop-i.w c.loop-i.i a.s.now c.loop-i.invariant.2 h))
 
 pub returns : goal.returns
 returns c =

@@ -48,35 +48,19 @@ module _ (negative raised lowers : Bool) (i f q : List ℕ) where
 
 pub power-e-requires : goal.power-e-requires
 power-e-requires c =
-    let g = c in
-    let s = g in
-    let d = formed (parts s.args.i.now s.args.f.now s.args.raised s.args.q.now) (sym g.is_well_formed.ensures ∙ not-false _ (not_from_true _ g.if-not-is_well_formed.false)) in
-    (d.power_digits s.requires, c.if-q-gt4.false)
+    let d = formed (parts c.args.i.now c.args.f.now c.args.raised c.args.q.now) (sym c.is_well_formed.ensures ∙ not-false _ (not_from_true _ c.if-not-is_well_formed.false)) in
+    (d.power_digits c.requires, c.if-q-gt4.false)
 
 pub scaled-requires : goal.scaled-requires
 scaled-requires c =
-    let m = c in
-    let p = m in
-    let h = p in
-    let g = h in
-    let b = g in
-    let s = b in
-    let d = formed (parts s.args.i.now s.args.f.now s.args.raised s.args.q.now) (sym g.is_well_formed.ensures ∙ not-false _ (not_from_true _ g.if-not-is_well_formed.false)) in
-    let e = digits_spelt s.args.i.now s.args.f.now d.whole_digits d.fraction_digits h.if-i-f-gt15.false _ _ b.read_digits-a.ensures.1 b.read_digits-b.ensures.1 in
-    let k = scale_means _ _ (sym m.is_scale.ensures ∙ not-false _ (not_from_true _ c.if-not-is_scale.false)) in
+    let d = formed (parts c.args.i.now c.args.f.now c.args.raised c.args.q.now) (sym c.is_well_formed.ensures ∙ not-false _ (not_from_true _ c.if-not-is_well_formed.false)) in
+    let e = digits_spelt c.args.i.now c.args.f.now d.whole_digits d.fraction_digits c.if-i-f-gt15.false _ _ c.read_digits-a.ensures.1 c.read_digits-b.ensures.1 in
+    let k = scale_means _ _ (sym c.is_scale.ensures ∙ not-false _ (not_from_true _ c.if-not-is_scale.false)) in
     (e.1, k.0, k.1)
 
 pub returns : goal.returns
 returns c =
-    let j = c in
-    let m = j in
-    let v = m in
-    let p = v in
-    let h = p in
-    let g = h in
-    let b = g in
-    let s = b in
-    let d = formed (parts s.args.i.now s.args.f.now s.args.raised s.args.q.now) (sym g.is_well_formed.ensures ∙ not-false _ (not_from_true _ g.if-not-is_well_formed.false)) in
-    let e = digits_spelt s.args.i.now s.args.f.now d.whole_digits d.fraction_digits h.if-i-f-gt15.false _ _ b.read_digits-a.ensures.1 b.read_digits-b.ensures.1 in
-    on_scale s.args.negative s.args.raised s.args.lowers s.args.i.now s.args.f.now s.args.q.now g.is_well_formed.ensures (not-false _ (not_from_true _ g.if-not-is_well_formed.false)) h.if-i-f-gt15.false h.if-q-gt4.false p.power-e.ensures.0 v.either-ups.ensures.0 v.either.ensures.0
-    m.is_scale.ensures (not-false _ (not_from_true _ j.if-not-is_scale.false)) c.scaled.ensures e.0
+    let d = formed (parts c.args.i.now c.args.f.now c.args.raised c.args.q.now) (sym c.is_well_formed.ensures ∙ not-false _ (not_from_true _ c.if-not-is_well_formed.false)) in
+    let e = digits_spelt c.args.i.now c.args.f.now d.whole_digits d.fraction_digits c.if-i-f-gt15.false _ _ c.read_digits-a.ensures.1 c.read_digits-b.ensures.1 in
+    on_scale c.args.negative c.args.raised c.args.lowers c.args.i.now c.args.f.now c.args.q.now c.is_well_formed.ensures (not-false _ (not_from_true _ c.if-not-is_well_formed.false)) c.if-i-f-gt15.false c.if-q-gt4.false c.power-e.ensures.0 c.either-ups.ensures.0 c.either.ensures.0
+    c.is_scale.ensures (not-false _ (not_from_true _ c.if-not-is_scale.false)) c.scaled.ensures e.0

@@ -15,22 +15,17 @@ returns-then-no-ne0 c =
 pub walk-end-requires : goal.walk-end-requires
 unfolding gossip_of exclusions_left
 walk-end-requires c =
-    let f = c in
-    let i = f in
-    let s = (gossip_sound _ _ _ _ _ _ _ _ _).0 (sym i.gossip_refusal-no.ensures ∙ i.if-no-ne0.false) in
-    let k = f.fill.auto.rows in
+    let s = (gossip_sound _ _ _ _ _ _ _ _ _).0 (sym c.gossip_refusal-no.ensures ∙ c.if-no-ne0.false) in
+    let k = c.fill.auto.rows in
     (s.population.0, s.population.1, s.replica, s.source_replica, s.table, omega (arith, k, s.each_exclusion))
 
 pub returns : goal.returns
 unfolding gossip_of exclusions_left
 returns c =
-    let l = c in
-    let f = l in
-    let i = f in
-    let e = i.gossip_refusal-no.ensures in
-    let z = i.if-no-ne0.false in
-    let x = i.args.exclusions.now in
+    let e = c.gossip_refusal-no.ensures in
+    let z = c.if-no-ne0.false in
+    let x = c.args.exclusions.now in
     let s = (gossip_sound _ _ _ _ _ _ _ _ _).0 (sym e ∙ z) in
-    let t = l.walk-end.new.exclusions in
-    let k = f.fill.auto.rows in
-    let j = l.walk-end.auto.exclusions in record { answer = asks _ _ _ _ _ _ _ _ x _ e z _ f.fill.ensures _ l.walk-end.ensures; words = excludes _ _ _ _ _ _ _ _ x _ e z _ f.fill.ensures _ l.walk-end.ensures t refl (λ i. (c.type_inv.exclusions i).fits) (omega (arith, j, k, s.each_exclusion)) }
+    let t = c.walk-end.new.exclusions in
+    let k = c.fill.auto.rows in
+    let j = c.walk-end.auto.exclusions in record { answer = asks _ _ _ _ _ _ _ _ x _ e z _ c.fill.ensures _ c.walk-end.ensures; words = excludes _ _ _ _ _ _ _ _ x _ e z _ c.fill.ensures _ c.walk-end.ensures t refl (λ i. (c.type_inv.exclusions i).fits) (omega (arith, j, k, s.each_exclusion)) }

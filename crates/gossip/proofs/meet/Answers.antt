@@ -13,11 +13,7 @@ returns-then-same c =
 
 pub returns : goal.returns
 returns c =
-    let p = c in
-    let i = p in
-    let s = i in
-    let st = s in
-    let r = st.args.so_far.available in
-    let g = st.well_formed.1.1.0 in
+    let r = c.args.so_far.available in
+    let g = c.well_formed.1.1.0 in
     let small = value_lt (words r) (are_words r (omega (arith, g)) (omega (arith, g)) (omega (arith, g)) (omega (arith, g))) in
-    adds _ _ _ _ _ _ s.union-available.ensures s.count.ensures _ s.same.ensures i.if-same.false _ _ refl (omega arith) small p.put.ensures _ c.with_replica.ensures
+    adds _ _ _ _ _ _ c.union-available.ensures c.count.ensures _ c.same.ensures c.if-same.false _ _ refl (omega arith) small c.put.ensures _ c.with_replica.ensures

@@ -28,23 +28,19 @@ laid n d total loads h e after k q =
 
 pub commits-requires : goal.commits-requires
 commits-requires c =
-    let l = c in
-    let s = l in
-    let a = s.args in
-    let h = room a.n s.requires.2 in (
-      back_enough (a.n * 4) (replicate 64 0) h l.lay-width.new.rows l.lay-width.auto.rows,
-      laid_below a.n a.d a.total a.loads.now s.requires.0 _ _ l.lay-width.ensures.width
-          (laid a.n a.d a.total a.loads.now h s.requires.1 _ l.lay-width.auto.rows l.lay-width.ensures.words),
+    let a = c.args in
+    let h = room a.n c.requires.2 in (
+      back_enough (a.n * 4) (replicate 64 0) h c.lay-width.new.rows c.lay-width.auto.rows,
+      laid_below a.n a.d a.total a.loads.now c.requires.0 _ _ c.lay-width.ensures.width
+          (laid a.n a.d a.total a.loads.now h c.requires.1 _ c.lay-width.auto.rows c.lay-width.ensures.words),
     )
 
 pub returns : goal.returns
 returns c =
-    let l = c in
-    let s = l in
-    let a = s.args in
+    let a = c.args in
     let m = a.n * 4 in
-    let h : m ≤ 64 = room a.n s.requires.2 in
+    let h : m ≤ 64 = room a.n c.requires.2 in
     c.commits.ensures
     ∙ ap (λ (x : List ℕ). commits a.n a.quorum a.d a.answered (row_in x) a.faults.now)
-    (laid a.n a.d a.total a.loads.now h s.requires.1 _ l.lay-width.auto.rows l.lay-width.ensures.words)
-    ∙ spelled_commits a.d a.total a.loads.now s.requires.0 a.n a.quorum a.answered a.faults.now
+    (laid a.n a.d a.total a.loads.now h c.requires.1 _ c.lay-width.auto.rows c.lay-width.ensures.words)
+    ∙ spelled_commits a.d a.total a.loads.now c.requires.0 a.n a.quorum a.answered a.faults.now

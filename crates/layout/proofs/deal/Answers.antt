@@ -14,17 +14,13 @@ loop-s-init c =
 
 pub overflow_add-offset : goal.overflow_add-offset
 overflow_add-offset c =
-    let i = c in
-    let h = sum_small _ _ _ _ i.loop-s.invariant.2 _ i.loop-s-test.true c.dealt.ensures (omega arith) (omega arith) in
+    let h = sum_small _ _ _ _ c.loop-s.invariant.2 _ c.loop-s-test.true c.dealt.ensures (omega arith) (omega arith) in
     omega (arith, h)
 
 pub loop-s-preserved : goal.loop-s-preserved
 loop-s-preserved c =
-    let u = c in
-    let r = u in
-    let i = r in
-    let l = i.loop-s in
-    let a = i.args in
+    let l = c.loop-s in
+    let a = c.args in
     let f : (ℕ → ℕ) = row_at a.d a.w a.loads.now in
-    let e = rows_more f a.rows.now l.s _ l.rows u.put.new.rows (omega arith) l.invariant.3 (row_is a.d a.loads.now l.s l.offset.0 l.invariant.2 a.w _ r.row_for.ensures) u.put.ensures in
-    (search rules, rows_length f a.rows.now (l.s + 1) u.put.new.rows (omega arith) e, search sum_more, e)
+    let e = rows_more f a.rows.now l.s _ l.rows c.put.new.rows (omega arith) l.invariant.3 (row_is a.d a.loads.now l.s l.offset.0 l.invariant.2 a.w _ c.row_for.ensures) c.put.ensures in
+    (search rules, rows_length f a.rows.now (l.s + 1) c.put.new.rows (omega arith) e, search sum_more, e)

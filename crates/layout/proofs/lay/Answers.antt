@@ -12,6 +12,4 @@ deal-requires c =
 pub returns : goal.returns
 unfolding rows_of
 returns c =
-    let d = c in
-    let w = d in
-    record { width = w.width_of-w.ensures; words = rw (← w.width_of-w.ensures) d.deal.ensures }
+    record { width = c.width_of-w.ensures; words = rw (← c.width_of-w.ensures) c.deal.ensures }

@@ -27,8 +27,7 @@ slice_bounds-heard_loads-end c =
 pub heard_loads-requires : goal.heard_loads-requires
 unfolding layout_commits_of trial_written
 heard_loads-requires c =
-    let i = c in
-    let s = (trial_sound _ _ _ _ _ _ _ _).0 (sym i.commits_refusal-no.ensures ∙ i.if-no-ne0.false) in
+    let s = (trial_sound _ _ _ _ _ _ _ _).0 (sym c.commits_refusal-no.ensures ∙ c.if-no-ne0.false) in
     sym (lent _ (replicate 16 0) s.population.1) ∙ sym s.each_load
 
 pub slice_bounds-heard-end-2 : goal.slice_bounds-heard-end-2
@@ -44,8 +43,7 @@ slice_bounds-lay-end c =
 pub lay-width-requires : goal.lay-width-requires
 unfolding layout_commits_of trial_written
 lay-width-requires c =
-    let i = c in
-    let s = (trial_sound _ _ _ _ _ _ _ _).0 (sym i.commits_refusal-no.ensures ∙ i.if-no-ne0.false) in
+    let s = (trial_sound _ _ _ _ _ _ _ _).0 (sym c.commits_refusal-no.ensures ∙ c.if-no-ne0.false) in
     let h = c.heard_loads in
     let k = back_lent _ (replicate 16 0) s.population.1 h.new.heard h.auto.heard in
     (s.shards, omega (arith, k, s.population.1), omega (arith, k, s.table))
@@ -53,22 +51,16 @@ lay-width-requires c =
 pub commits-commits-requires : goal.commits-commits-requires
 unfolding layout_commits_of trial_written
 commits-commits-requires c =
-    let l = c in
-    let g = l in
-    let i = g in
-    let e = i.commits_refusal-no.ensures in
-    let z = i.if-no-ne0.false in
+    let e = c.commits_refusal-no.ensures in
+    let z = c.if-no-ne0.false in
     let s = (trial_sound _ _ _ _ _ _ _ _).0 (sym e ∙ z) in
-    let h = back _ (replicate 16 0) s.population.1 _ g.heard_loads.auto.heard ∙ g.heard_loads.ensures in
-    (omega arith, trial_below _ _ _ _ _ _ _ _ _ e z _ _ h l.lay-width.ensures.words _ l.lay-width.ensures.width)
+    let h = back _ (replicate 16 0) s.population.1 _ c.heard_loads.auto.heard ∙ c.heard_loads.ensures in
+    (omega arith, trial_below _ _ _ _ _ _ _ _ _ e z _ _ h c.lay-width.ensures.words _ c.lay-width.ensures.width)
 
 pub returns : goal.returns
 unfolding layout_commits_of trial_written
 returns c =
-    let l = c in
-    let g = l in
-    let i = g in
-    let e = i.commits_refusal-no.ensures in
-    let z = i.if-no-ne0.false in
+    let e = c.commits_refusal-no.ensures in
+    let z = c.if-no-ne0.false in
     let s = (trial_sound _ _ _ _ _ _ _ _).0 (sym e ∙ z) in
-    let h = back _ (replicate 16 0) s.population.1 _ g.heard_loads.auto.heard ∙ g.heard_loads.ensures in record { answer = trial_says _ _ _ _ _ _ _ _ _ e z _ _ h l.lay-width.ensures.words _ _ l.lay-width.ensures.width c.commits-commits.ensures; words = trial_written_is _ _ _ _ _ _ _ _ _ e z _ _ h l.lay-width.ensures.words }
+    let h = back _ (replicate 16 0) s.population.1 _ c.heard_loads.auto.heard ∙ c.heard_loads.ensures in record { answer = trial_says _ _ _ _ _ _ _ _ _ e z _ _ h c.lay-width.ensures.words _ _ c.lay-width.ensures.width c.commits-commits.ensures; words = trial_written_is _ _ _ _ _ _ _ _ _ e z _ _ h c.lay-width.ensures.words }

@@ -15,8 +15,7 @@ returns-then-no-ne0 c =
 pub lay-requires : goal.lay-requires
 unfolding layout_rows_of rows_written
 lay-requires c =
-    let i = c in
-    let s = (rows_sound _ _ _ _ _).0 (sym i.rows_refusal-no.ensures ∙ i.if-no-ne0.false) in
+    let s = (rows_sound _ _ _ _ _).0 (sym c.rows_refusal-no.ensures ∙ c.if-no-ne0.false) in
     (s.shards, omega arith, omega arith)
 
 pub returns : goal.returns

@@ -16,31 +16,18 @@ run_length-requires c =
 
 pub write_runs-requires : goal.write_runs-requires
 write_runs-requires c =
-    let k = c in
-    let l = k in
-    let i = l in
-    let r = (readable _ _ _ _).0 (sym i.input_refusal-no.ensures ∙ i.if-no-ne0.false) in
-    (r.population.0, omega (arith, r.shards), r.shards.2, length_le _ _ _ _ r.shards.1 (sym l.run_length.ensures ∙ ap whole k.in-Value.is))
+    let r = (readable _ _ _ _).0 (sym c.input_refusal-no.ensures ∙ c.if-no-ne0.false) in
+    (r.population.0, omega (arith, r.shards), r.shards.2, length_le _ _ _ _ r.shards.1 (sym c.run_length.ensures ∙ ap whole c.in-Value.is))
 
 pub write_segments-requires : goal.write_segments-requires
 write_segments-requires c =
-    let l = c in
-    let i = l in
-    let r = (readable _ _ _ _).0 (sym i.input_refusal-no.ensures ∙ i.if-no-ne0.false) in
+    let r = (readable _ _ _ _).0 (sym c.input_refusal-no.ensures ∙ c.if-no-ne0.false) in
     (r.population.0, r.population.1, r.shards.2)
 
 pub returns-in-Value : goal.returns-in-Value
 returns-in-Value c =
-    let w = c in
-    let k = w in
-    let l = k in
-    let i = l in
-    ends_runs _ _ _ _ i.args.rows.now i.input_refusal-no.ensures i.if-no-ne0.false l.run_length.ensures k.in-Value.is w.write_runs.ensures
+    ends_runs _ _ _ _ c.args.rows.now c.input_refusal-no.ensures c.if-no-ne0.false c.run_length.ensures c.in-Value.is c.write_runs.ensures
 
 pub returns-in-Refused : goal.returns-in-Refused
 returns-in-Refused c =
-    let w = c in
-    let t = w in
-    let l = t in
-    let i = l in
-    ends_segments _ _ _ _ i.args.rows.now i.input_refusal-no.ensures i.if-no-ne0.false l.run_length.ensures t.in-Refused.is w.write_segments.ensures
+    ends_segments _ _ _ _ c.args.rows.now c.input_refusal-no.ensures c.if-no-ne0.false c.run_length.ensures c.in-Refused.is c.write_segments.ensures

@@ -13,36 +13,24 @@ upto-requires c =
 
 pub overflow_add-c : goal.overflow_add-c
 overflow_add-c c =
-    let i = c in
-    let h = colon_inside 0 0 _ i.find-c.ensures i.if-c-s.false in
+    let h = colon_inside 0 0 _ c.find-c.ensures c.if-c-s.false in
     omega (arith, h)
 
 pub after-requires : goal.after-requires
 after-requires c =
-    let i = c in
-    let h = colon_inside 0 0 _ i.find-c.ensures i.if-c-s.false in
+    let h = colon_inside 0 0 _ c.find-c.ensures c.if-c-s.false in
     omega (arith, h)
 
 pub returns-in-Refused : goal.returns-in-Refused
 returns-in-Refused c =
-    let r = c in
-    let i = r in
-    replica_refused _ _ _ i.find-c.ensures i.if-c-s.false r.upto.ensures r.read_below.ensures c.in-Refused.is
+    replica_refused _ _ _ c.find-c.ensures c.if-c-s.false c.upto.ensures c.read_below.ensures c.in-Refused.is
 
 pub returns-in-Refused-read_shards : goal.returns-in-Refused-read_shards
 returns-in-Refused-read_shards c =
-    let o = c in
-    let v = o in
-    let r = v in
-    let i = r in
-    shards_refused _ _ _ i.find-c.ensures i.if-c-s.false r.upto.ensures r.read_below.ensures v.in-Value.is
-    o.after.ensures o.read_shards.ensures c.in-Refused-read_shards.is
+    shards_refused _ _ _ c.find-c.ensures c.if-c-s.false c.upto.ensures c.read_below.ensures c.in-Value.is
+    c.after.ensures c.read_shards.ensures c.in-Refused-read_shards.is
 
 pub returns-in-Row : goal.returns-in-Row
 returns-in-Row c =
-    let o = c in
-    let v = o in
-    let r = v in
-    let i = r in
-    segment_read _ _ _ i.find-c.ensures i.if-c-s.false r.upto.ensures r.read_below.ensures v.in-Value.is
-    o.after.ensures o.read_shards.ensures c.in-Row.is
+    segment_read _ _ _ c.find-c.ensures c.if-c-s.false c.upto.ensures c.read_below.ensures c.in-Value.is
+    c.after.ensures c.read_shards.ensures c.in-Row.is

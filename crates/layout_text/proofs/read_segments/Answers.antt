@@ -8,8 +8,7 @@ use Rattle.layout_text.proofs.read_segments.Goals as goal
 
 pub returns-in-Refused : goal.returns-in-Refused
 returns-in-Refused c =
-    let r = c in
-    read_refused (segment_in _ _) _ r.loop-no.invariant.2 r.part-q.ensures (row_refused _ _ _ r.read_segment.ensures _ c.in-Refused.is)
+    read_refused (segment_in _ _) _ c.loop-no.invariant.2 c.part-q.ensures (row_refused _ _ _ c.read_segment.ensures _ c.in-Refused.is)
 
 pub unite-requires : goal.unite-requires
 unite-requires c =
@@ -17,21 +16,15 @@ unite-requires c =
 
 pub returns-then-p-s : goal.returns-then-p-s
 returns-then-p-s c =
-    let u = c in
-    let k = u in
-    let r = k in
-    let l = r.loop-no in
-    let e = row_united _ _ _ r.read_segment.ensures k.in-Row.is l.words (omega arith) u.unite.ensures.room u.unite.ensures.words in
-    read_last (segment_in _ _) _ l.invariant.2 r.part-q.ensures e c.if-p-s.true
+    let l = c.loop-no in
+    let e = row_united _ _ _ c.read_segment.ensures c.in-Row.is l.words (omega arith) c.unite.ensures.room c.unite.ensures.words in
+    read_last (segment_in _ _) _ l.invariant.2 c.part-q.ensures e c.if-p-s.true
 
 pub loop-no-preserved : goal.loop-no-preserved
 loop-no-preserved c =
-    let u = c in
-    let k = u in
-    let r = k in
-    let l = r.loop-no in
-    let e = row_united _ _ _ r.read_segment.ensures k.in-Row.is l.words (omega arith) u.unite.ensures.room u.unite.ensures.words in (
+    let l = c.loop-no in
+    let e = row_united _ _ _ c.read_segment.ensures c.in-Row.is l.words (omega arith) c.unite.ensures.room c.unite.ensures.words in (
       search rules,
       search rules,
-      read_more (segment_in _ _) _ l.invariant.2 r.part-q.ensures e c.if-p-s.false,
+      read_more (segment_in _ _) _ l.invariant.2 c.part-q.ensures e c.if-p-s.false,
     )

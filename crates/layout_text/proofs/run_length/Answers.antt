@@ -13,27 +13,23 @@ returns-then-s-eq0 c =
 pub returns-then-k-share : goal.returns-then-k-share
 unfolding length_of
 returns-then-k-share c =
-    let r = c in
-    let e = sym r.read_whole.ensures ∙ ap whole c.in-Value.is in
-    rw (ne_eqb _ _ r.if-s-eq0.false, e, lt-leb _ _ c.if-k-share.true)
+    let e = sym c.read_whole.ensures ∙ ap whole c.in-Value.is in
+    rw (ne_eqb _ _ c.if-s-eq0.false, e, lt-leb _ _ c.if-k-share.true)
 
 pub returns-then-d-k : goal.returns-then-d-k
 unfolding length_of
 returns-then-d-k c =
-    let r = c in
-    let e = sym r.read_whole.ensures ∙ ap whole c.in-Value.is in
-    rw (ne_eqb _ _ r.if-s-eq0.false, e, le-leb _ _ c.if-k-share.false, lt-leb _ _ c.if-d-k.true)
+    let e = sym c.read_whole.ensures ∙ ap whole c.in-Value.is in
+    rw (ne_eqb _ _ c.if-s-eq0.false, e, le-leb _ _ c.if-k-share.false, lt-leb _ _ c.if-d-k.true)
 
 pub returns-in-Refused : goal.returns-in-Refused
 unfolding length_of
 returns-in-Refused c =
-    let r = c in
-    let e = sym r.read_whole.ensures ∙ ap whole c.in-Refused.is in
-    rw (ne_eqb _ _ r.if-s-eq0.false, e)
+    let e = sym c.read_whole.ensures ∙ ap whole c.in-Refused.is in
+    rw (ne_eqb _ _ c.if-s-eq0.false, e)
 
 pub returns-else-d-k : goal.returns-else-d-k
 unfolding length_of
 returns-else-d-k c =
-    let r = c in
-    let e = sym r.read_whole.ensures ∙ ap whole c.in-Value.is in
-    rw (ne_eqb _ _ r.if-s-eq0.false, e, le-leb _ _ c.if-k-share.false, le-leb _ _ c.if-d-k.false)
+    let e = sym c.read_whole.ensures ∙ ap whole c.in-Value.is in
+    rw (ne_eqb _ _ c.if-s-eq0.false, e, le-leb _ _ c.if-k-share.false, le-leb _ _ c.if-d-k.false)

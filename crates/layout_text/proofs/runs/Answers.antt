@@ -11,11 +11,8 @@ loop-r-init c =
 
 pub loop-r-preserved : goal.loop-r-preserved
 loop-r-preserved c =
-    let u = c in
-    let m = u in
-    let l = m.loop-r in
-    let st = m in
-    let a = st.args in (
+    let l = c.loop-r in
+    let a = c.args in (
       search rules,
-      runs_more a.n a.total a.k l.words l.r st.requires.1 st.requires.2 l.invariant.1 (omega arith) m.loop-r-test.true m.run_from.ensures u.put.ensures,
+      runs_more a.n a.total a.k l.words l.r c.requires.1 c.requires.2 l.invariant.1 (omega arith) c.loop-r-test.true c.run_from.ensures c.put.ensures,
     )

@@ -8,13 +8,9 @@ use Rattle.layout_text.proofs.write_runs.Goals as goal
 
 pub runs-requires : goal.runs-requires
 runs-requires c =
-    let i = c in
-    let s = i in
-    let t = (tabled _ _ _).0 (sym i.table_refusal-no.ensures ∙ i.if-no-ne0.false) in
-    (s.requires.0, s.requires.1, s.requires.2, s.requires.3, omega (arith, t.1))
+    let t = (tabled _ _ _).0 (sym c.table_refusal-no.ensures ∙ c.if-no-ne0.false) in
+    (c.requires.0, c.requires.1, c.requires.2, c.requires.3, omega (arith, t.1))
 
 pub returns : goal.returns
 returns c =
-    let r = c in
-    let i = r in
-    lands_written _ _ i.args.rows.now _ _ refl i.table_refusal-no.ensures i.if-no-ne0.false (λ j. (c.slice_known-2-1.given j).fits) (search rules) r.runs.ensures
+    lands_written _ _ c.args.rows.now _ _ refl c.table_refusal-no.ensures c.if-no-ne0.false (λ j. (c.slice_known-2-1.given j).fits) (search rules) c.runs.ensures

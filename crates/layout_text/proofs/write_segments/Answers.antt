@@ -9,30 +9,22 @@ use Rattle.layout_text.proofs.write_segments.Goals as goal
 
 pub returns-then-no-ne0 : goal.returns-then-no-ne0
 returns-then-no-ne0 c =
-    let t = c in
-    let l = t in
-    lands_untabled _ _ _ _ _ (segments_rows _ _ _ l.read_segments.new.words _ l.read_segments.ensures t.in-Rows.is) c.table_refusal-no.ensures c.if-no-ne0.true
+    lands_untabled _ _ _ _ _ (segments_rows _ _ _ c.read_segments.new.words _ c.read_segments.ensures c.in-Rows.is) c.table_refusal-no.ensures c.if-no-ne0.true
 
 pub copy-requires : goal.copy-requires
 copy-requires c =
-    let y = c in
-    let l = y in
-    let p = l.requires in
-    let t = (tabled _ _ _).0 (sym y.table_refusal-no.ensures ∙ y.if-no-ne0.false) in
-    let k : length l.read_segments.new.words ≡ 64 = search rules in
+    let p = c.requires in
+    let t = (tabled _ _ _).0 (sym c.table_refusal-no.ensures ∙ c.if-no-ne0.false) in
+    let k : length c.read_segments.new.words ≡ 64 = search rules in
     omega (arith, p.1, t.1, k)
 
 pub returns-in-Refused : goal.returns-in-Refused
 returns-in-Refused c =
-    let l = c in
-    lands_misread _ _ _ _ (segments_refused _ _ _ l.read_segments.new.words _ l.read_segments.ensures c.in-Refused.is)
+    lands_misread _ _ _ _ (segments_refused _ _ _ c.read_segments.new.words _ c.read_segments.ensures c.in-Refused.is)
 
 pub returns-else-no-ne0 : goal.returns-else-no-ne0
 returns-else-no-ne0 c =
-    let y = c in
-    let t = y in
-    let l = t in
-    let f = y.table_refusal-no.ensures in
-    let w = l.read_segments.new.words in
-    lands_written _ _ l.args.rows.now _ _ (segments_rows _ _ _ w _ l.read_segments.ensures t.in-Rows.is) f y.if-no-ne0.false
-    (λ j. (c.slice_known-in-Rows-1.given j).fits) (search rules) (copied_rows _ _ _ f y.if-no-ne0.false w _ c.copy.ensures)
+    let f = c.table_refusal-no.ensures in
+    let w = c.read_segments.new.words in
+    lands_written _ _ c.args.rows.now _ _ (segments_rows _ _ _ w _ c.read_segments.ensures c.in-Rows.is) f c.if-no-ne0.false
+    (λ j. (c.slice_known-in-Rows-1.given j).fits) (search rules) (copied_rows _ _ _ f c.if-no-ne0.false w _ c.copy.ensures)

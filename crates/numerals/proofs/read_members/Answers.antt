@@ -4,4 +4,4 @@ use Rattle.numerals.proofs.read_members.Goals as goal
 
 pub returns-in-Row : goal.returns-in-Row
 returns-in-Row c =
-    let r = c in mask_read _ _ _ r.read_shards.ensures r.requires c.in-Row.is
+    mask_read _ _ _ c.read_shards.ensures c.requires c.in-Row.is

@@ -15,8 +15,7 @@ loop-no-init c =
 pub returns-in-Refused : goal.returns-in-Refused
 unfolding members_of
 returns-in-Refused c =
-    let r = c in
-    read_refused (member_in _ _) _ r.loop-no.invariant.1 r.part-q.ensures (member_refused _ _ _ r.read_member.ensures _ c.in-Refused.is)
+    read_refused (member_in _ _) _ c.loop-no.invariant.1 c.part-q.ensures (member_refused _ _ _ c.read_member.ensures _ c.in-Refused.is)
 
 pub with_shard-row-requires : goal.with_shard-row-requires
 unfolding members_of
@@ -26,15 +25,11 @@ with_shard-row-requires c =
 pub returns-then-p-s : goal.returns-then-p-s
 unfolding members_of
 returns-then-p-s c =
-    let k = c in
-    let r = k in
-    let e = member_read _ _ _ r.read_member.ensures k.in-Value.is (row_of r.loop-no.row) c.with_shard-row.ensures in
-    read_last (member_in _ _) _ r.loop-no.invariant.1 r.part-q.ensures e c.if-p-s.true
+    let e = member_read _ _ _ c.read_member.ensures c.in-Value.is (row_of c.loop-no.row) c.with_shard-row.ensures in
+    read_last (member_in _ _) _ c.loop-no.invariant.1 c.part-q.ensures e c.if-p-s.true
 
 pub loop-no-preserved : goal.loop-no-preserved
 unfolding members_of
 loop-no-preserved c =
-    let k = c in
-    let r = k in
-    let e = member_read _ _ _ r.read_member.ensures k.in-Value.is (row_of r.loop-no.row) c.with_shard-row.ensures in
-    (search rules, read_more (member_in _ _) _ r.loop-no.invariant.1 r.part-q.ensures e c.if-p-s.false)
+    let e = member_read _ _ _ c.read_member.ensures c.in-Value.is (row_of c.loop-no.row) c.with_shard-row.ensures in
+    (search rules, read_more (member_in _ _) _ c.loop-no.invariant.1 c.part-q.ensures e c.if-p-s.false)

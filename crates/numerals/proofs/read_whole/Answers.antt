@@ -17,23 +17,18 @@ returns-then-b-lt48 c =
 
 pub returns-then-b-gt57 : goal.returns-then-b-gt57
 returns-then-b-gt57 c =
-    let l = c in
-    whole_high _ _ _ l.loop-i.invariant.2 l.loop-i-test.true c.if-b-lt48.false c.if-b-gt57.true
+    whole_high _ _ _ c.loop-i.invariant.2 c.loop-i-test.true c.if-b-lt48.false c.if-b-gt57.true
 
 pub returns-then-v-gt255 : goal.returns-then-v-gt255
 returns-then-v-gt255 c =
-    let e = c in
-    let l = e in
-    whole_over _ _ _ l.loop-i.invariant.2 l.loop-i-test.true e.if-b-lt48.false e.if-b-gt57.false c.wide.ensures c.if-v-gt255.true
+    whole_over _ _ _ c.loop-i.invariant.2 c.loop-i-test.true c.if-b-lt48.false c.if-b-gt57.false c.wide.ensures c.if-v-gt255.true
 
 pub loop-i-preserved : goal.loop-i-preserved
-loop-i-preserved c =
-    let e = c in
-    let l = e in (
-      search rules,
-      c.if-v-gt255.false,
-      whole_next _ _ _ l.loop-i.invariant.2 l.loop-i-test.true e.if-b-lt48.false e.if-b-gt57.false c.wide.ensures,
-    )
+loop-i-preserved c = (
+  search rules,
+  c.if-v-gt255.false,
+  whole_next _ _ _ c.loop-i.invariant.2 c.loop-i-test.true c.if-b-lt48.false c.if-b-gt57.false c.wide.ensures,
+)
 
 pub returns : goal.returns
 returns c =

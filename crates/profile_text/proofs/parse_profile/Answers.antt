@@ -14,8 +14,7 @@ returns-then-not-is_population c =
 pub returns-then-not-is_text : goal.returns-then-not-is_text
 unfolding profile_of
 returns-then-not-is_text c =
-    let t = c in
-    c.refused-then-not-is_text.ensures ∙ rw (sym t.is_population.ensures ∙ not-false _ (not_from_true _ t.if-not-is_population.false), sym t.is_text.ensures ∙ not-true _ (not_from_false _ c.if-not-is_text.true))
+    c.refused-then-not-is_text.ensures ∙ rw (sym c.is_population.ensures ∙ not-false _ (not_from_true _ c.if-not-is_population.false), sym c.is_text.ensures ∙ not-true _ (not_from_false _ c.if-not-is_text.true))
 
 pub read_mechanisms-requires : goal.read_mechanisms-requires
 unfolding profile_of
@@ -25,6 +24,5 @@ read_mechanisms-requires c =
 pub returns : goal.returns
 unfolding profile_of
 returns c =
-    let t = c in
     c.read_mechanisms.ensures
-    ∙ rw (sym t.is_population.ensures ∙ not-false _ (not_from_true _ t.if-not-is_population.false), sym t.is_text.ensures ∙ not-false _ (not_from_true _ c.if-not-is_text.false))
+    ∙ rw (sym c.is_population.ensures ∙ not-false _ (not_from_true _ c.if-not-is_population.false), sym c.is_text.ensures ∙ not-false _ (not_from_true _ c.if-not-is_text.false))

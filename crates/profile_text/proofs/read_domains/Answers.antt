@@ -14,31 +14,22 @@ loop-u-init c =
 pub returns-then-u-ge64 : goal.returns-then-u-ge64
 unfolding domains_in with_domain
 returns-then-u-ge64 c =
-    let r = c in
-    c.refused.ensures ∙ ap parsed (read_refused (domain_in _) _ r.loop-u.invariant.1 r.part-q.ensures (domain_full _ _ _ c.if-u-ge64.true))
+    c.refused.ensures ∙ ap parsed (read_refused (domain_in _) _ c.loop-u.invariant.1 c.part-q.ensures (domain_full _ _ _ c.if-u-ge64.true))
 
 pub returns-in-Refused : goal.returns-in-Refused
 unfolding domains_in with_domain
 returns-in-Refused c =
-    let k = c in
-    let r = k in
     c.refused-in-Refused.ensures
-    ∙ ap parsed (read_refused (domain_in _) _ r.loop-u.invariant.1 r.part-q.ensures (domain_refused _ _ _ k.if-u-ge64.false k.read_members.ensures c.in-Refused.is))
+    ∙ ap parsed (read_refused (domain_in _) _ c.loop-u.invariant.1 c.part-q.ensures (domain_refused _ _ _ c.if-u-ge64.false c.read_members.ensures c.in-Refused.is))
 
 pub returns-then-at-args : goal.returns-then-at-args
 unfolding domains_in with_domain
 returns-then-at-args c =
-    let m = c in
-    let k = m in
-    let r = k in
-    let e = domain_read _ _ _ k.if-u-ge64.false k.read_members.ensures m.in-Mask.is in
-    c.read.ensures ∙ ap parsed (read_last (domain_in _) _ r.loop-u.invariant.1 r.part-q.ensures e c.if-at-args.true)
+    let e = domain_read _ _ _ c.if-u-ge64.false c.read_members.ensures c.in-Mask.is in
+    c.read.ensures ∙ ap parsed (read_last (domain_in _) _ c.loop-u.invariant.1 c.part-q.ensures e c.if-at-args.true)
 
 pub loop-u-preserved : goal.loop-u-preserved
 unfolding domains_in with_domain
 loop-u-preserved c =
-    let m = c in
-    let k = m in
-    let r = k in
-    let e = domain_read _ _ _ k.if-u-ge64.false k.read_members.ensures m.in-Mask.is in
-    (search rules, read_more (domain_in _) _ r.loop-u.invariant.1 r.part-q.ensures e c.if-at-args.false)
+    let e = domain_read _ _ _ c.if-u-ge64.false c.read_members.ensures c.in-Mask.is in
+    (search rules, read_more (domain_in _) _ c.loop-u.invariant.1 c.part-q.ensures e c.if-at-args.false)

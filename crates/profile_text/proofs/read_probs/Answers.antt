@@ -16,29 +16,19 @@ past-requires c =
 
 pub returns-in-Refused : goal.returns-in-Refused
 returns-in-Refused c =
-    let a = c in
-    let l = a in
-    let u = l.upto.ensures ∙ rw l.find-c.ensures in
-    c.refused.ensures ∙ ap parsed (probs_refused _ _ _ u l.read_decimals-list.ensures a.in-Refused.is)
+    let u = c.upto.ensures ∙ rw c.find-c.ensures in
+    c.refused.ensures ∙ ap parsed (probs_refused _ _ _ u c.read_decimals-list.ensures c.in-Refused.is)
 
 pub returns-in-Refused-read_threshold : goal.returns-in-Refused-read_threshold
 returns-in-Refused-read_threshold c =
-    let a = c in
-    let w = a in
-    let g = w in
-    let l = g in
-    let u = l.upto.ensures ∙ rw l.find-c.ensures in
-    let v = g.past.ensures ∙ rw l.find-c.ensures in
+    let u = c.upto.ensures ∙ rw c.find-c.ensures in
+    let v = c.past.ensures ∙ rw c.find-c.ensures in
     c.refused-in-Refused-read_threshold.ensures
-    ∙ ap parsed (threshold_refused _ _ _ u l.read_decimals-list.ensures g.in-Read.is v w.read_threshold.ensures a.in-Refused-read_threshold.is)
+    ∙ ap parsed (threshold_refused _ _ _ u c.read_decimals-list.ensures c.in-Read.is v c.read_threshold.ensures c.in-Refused-read_threshold.is)
 
 pub returns-in-Value : goal.returns-in-Value
 returns-in-Value c =
-    let a = c in
-    let w = a in
-    let g = w in
-    let l = g in
-    let u = l.upto.ensures ∙ rw l.find-c.ensures in
-    let v = g.past.ensures ∙ rw l.find-c.ensures in
+    let u = c.upto.ensures ∙ rw c.find-c.ensures in
+    let v = c.past.ensures ∙ rw c.find-c.ensures in
     c.fitting.ensures
-    ∙ ap parsed (probs_read _ _ _ u l.read_decimals-list.ensures g.in-Read.is v w.read_threshold.ensures a.in-Value.is c.with_words.ensures)
+    ∙ ap parsed (probs_read _ _ _ u c.read_decimals-list.ensures c.in-Read.is v c.read_threshold.ensures c.in-Value.is c.with_words.ensures)

@@ -12,9 +12,8 @@ use Rattle.profiles.proofs.domains_fit.Goals as goal
 pub returns-then-count-ge64 : goal.returns-then-count-ge64
 unfolding domains_fit
 returns-then-count-ge64 c =
-    let s = c in
-    let l : length s.args.p.domains ≡ 64 = search rules in
-    c.are_masks.ensures ∙ ap (all (is_mask s.args.n)) (sym (take_all s.args.p.domain_count s.args.p.domains (omega arith)))
+    let l : length c.args.p.domains ≡ 64 = search rules in
+    c.are_masks.ensures ∙ ap (all (is_mask c.args.n)) (sym (take_all c.args.p.domain_count c.args.p.domains (omega arith)))
 
 pub returns : goal.returns
 unfolding domains_fit

@@ -18,12 +18,10 @@ returns-then-p-n c =
 pub returns-then-not-all_probabilities : goal.returns-then-not-all_probabilities
 unfolding probs_fit
 returns-then-not-all_probabilities c =
-    let s = c in
-    rw (ne_eqb _ _ s.if-p-eq0.false, eq-eqb _ _ s.if-p-n.false, sym c.all_probabilities.ensures ∙ not-true _ (not_from_false _ c.if-not-all_probabilities.true))
+    rw (ne_eqb _ _ c.if-p-eq0.false, eq-eqb _ _ c.if-p-n.false, sym c.all_probabilities.ensures ∙ not-true _ (not_from_false _ c.if-not-all_probabilities.true))
 
 pub returns : goal.returns
 unfolding probs_fit
 returns c =
-    let s = c in
-    rw (ne_eqb _ _ s.if-p-eq0.false, eq-eqb _ _ s.if-p-n.false, sym c.all_probabilities.ensures ∙ not-false _ (not_from_true _ c.if-not-all_probabilities.false))
+    rw (ne_eqb _ _ c.if-p-eq0.false, eq-eqb _ _ c.if-p-n.false, sym c.all_probabilities.ensures ∙ not-false _ (not_from_true _ c.if-not-all_probabilities.false))
     c.is_threshold.ensures

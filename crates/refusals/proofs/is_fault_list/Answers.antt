@@ -18,8 +18,7 @@ returns-then-faults-eq0 c =
 pub returns : goal.returns
 unfolding is_fault_list
 returns c =
-    let s = c in
-    let a = s.args in
-    rw (ne_eqb _ _ s.if-faults-eq0.false)
+    let a = c.args in
+    rw (ne_eqb _ _ c.if-faults-eq0.false)
     (c.are_under.ensures ∙ ap (λ (limit : ℕ). all (is_under limit) a.faults.now) (c.run.ensures ∙ run_all a.n)
     ∙ all_same (is_under (all_below a.n)) (is_fault_set a.n) (fault_set_under a.n) a.faults.now)

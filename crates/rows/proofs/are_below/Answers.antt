@@ -7,10 +7,9 @@ use Rattle.rows.proofs.are_below.Goals as goal
 
 pub returns-then-w-ge192 : goal.returns-then-w-ge192
 returns-then-w-ge192 c =
-    let k = c in
-    let a = k.args in
+    let a = c.args in
     c.is_below.ensures ∙ ap (is_below (a.w - 192)) c.last_of.ensures
-    ∙ last_words_below a.w c.if-w-ge192.true a.rows.now (λ i. (k.shared_slice_known-1.given i).fits)
+    ∙ last_words_below a.w c.if-w-ge192.true a.rows.now (λ i. (c.shared_slice_known-1.given i).fits)
 
 pub returns : goal.returns
 returns c =

@@ -13,10 +13,8 @@ loop-s-init c =
 
 pub loop-s-preserved : goal.loop-s-preserved
 loop-s-preserved c =
-    let u = c in
-    let k = u.loop-s in
-    let st = u in
-    let f : (ℕ → ℕ) = λ (_ : ℕ). row_of st.args.row in
-    let n : suc k.s ≤ st.args.n = omega arith in
-    let e = rows_more f st.args.rows.now k.s (row_of st.args.row) k.rows u.put.new.rows (omega arith) k.invariant.2 refl u.put.ensures in
-    (omega arith, rows_length f st.args.rows.now (k.s + 1) u.put.new.rows (omega arith) e, e)
+    let k = c.loop-s in
+    let f : (ℕ → ℕ) = λ (_ : ℕ). row_of c.args.row in
+    let n : suc k.s ≤ c.args.n = omega arith in
+    let e = rows_more f c.args.rows.now k.s (row_of c.args.row) k.rows c.put.new.rows (omega arith) k.invariant.2 refl c.put.ensures in
+    (omega arith, rows_length f c.args.rows.now (k.s + 1) c.put.new.rows (omega arith) e, e)

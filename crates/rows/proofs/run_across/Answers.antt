@@ -6,8 +6,6 @@ use Rattle.rows.proofs.run_across.Goals as goal
 
 pub returns : goal.returns
 returns c =
-    let e1 = c in
-    let s = e1 in
-    let k = s.args in
-    run_is k.a _ _ _ _ _ _ _ _ _ _ _ e1.past-a1.ensures e1.past-e1.ensures c.past-a2.ensures c.past-e2.ensures c.past.ensures c.past-2.ensures
-    c.span-w0.ensures c.span-w1.ensures c.span-w2.ensures c.span-w3.ensures ∙ value_run 4 k.a k.k s.requires
+    let k = c.args in
+    run_is k.a _ _ _ _ _ _ _ _ _ _ _ c.past-a1.ensures c.past-e1.ensures c.past-a2.ensures c.past-e2.ensures c.past.ensures c.past-2.ensures
+    c.span-w0.ensures c.span-w1.ensures c.span-w2.ensures c.span-w3.ensures ∙ value_run 4 k.a k.k c.requires

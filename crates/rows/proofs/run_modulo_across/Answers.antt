@@ -11,6 +11,5 @@ returns-then-a-k c =
 
 pub returns : goal.returns
 returns c =
-    let s = c in
-    let a = s.args in
-    c.union.ensures ∙ ap₂ bit_or c.run-2.ensures c.run-3.ensures ∙ sym (run_wraps a.w a.from a.k s.requires.0 s.requires.2 (omega arith))
+    let a = c.args in
+    c.union.ensures ∙ ap₂ bit_or c.run-2.ensures c.run-3.ensures ∙ sym (run_wraps a.w a.from a.k c.requires.0 c.requires.2 (omega arith))

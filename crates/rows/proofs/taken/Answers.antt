@@ -5,6 +5,5 @@ use Rattle.rows.proofs.taken.Goals as goal
 
 pub returns : goal.returns
 returns c =
-    let s = c in
-    let a = s.args in
-    taken_is a.row (are_words a.row (omega arith) (omega arith) (omega arith) (omega arith)) a.flag s.requires
+    let a = c.args in
+    taken_is a.row (are_words a.row (omega arith) (omega arith) (omega arith) (omega arith)) a.flag c.requires

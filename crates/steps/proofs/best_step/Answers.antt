@@ -22,18 +22,14 @@ loop-i-init c =
 pub loop-i-preserved : goal.loop-i-preserved
 unfolding best_step
 loop-i-preserved c =
-    let t = c in
-    let y = t in
-    let w = y in
-    let l = w in
-    let a = l.args in
+    let a = c.args in
     let f = time_of_step a.n a.f a.own.0 a.d a.majority a.size a.inflight.now (models_in a.models.now) in
     let v =
-    timed a.d a.majority a.size l.loop-i.i a.n a.f a.own.0 a.inflight.now (models_in a.models.now) _ y.step_time-time.ensures in (
-      omega (arith, w.loop-i-test.true),
+    timed a.d a.majority a.size c.loop-i.i a.n a.f a.own.0 a.inflight.now (models_in a.models.now) _ c.step_time-time.ensures in (
+      omega (arith, c.loop-i-test.true),
       elim c.if-not-total_le.branch [
-        | then-not-total_le m ↦ least_moved total_le f nan nan_above _ _ _ l.loop-i.invariant.1 _ _ v t.total_le.ensures _ _ m.if-not-total_le.true m.best-is m.least-is
-        | else-not-total_le m ↦ least_kept total_le f nan nan_above _ _ _ l.loop-i.invariant.1 _ _ v t.total_le.ensures _ _ m.if-not-total_le.false m.best-is m.least-is
+        | then-not-total_le m ↦ least_moved total_le f nan nan_above _ _ _ c.loop-i.invariant.1 _ _ v c.total_le.ensures _ _ m.if-not-total_le.true m.best-is m.least-is
+        | else-not-total_le m ↦ least_kept total_le f nan nan_above _ _ _ c.loop-i.invariant.1 _ _ v c.total_le.ensures _ _ m.if-not-total_le.false m.best-is m.least-is
       ],
     )
 
@@ -41,8 +37,7 @@ pub returns : goal.returns
 unfolding best_step
 returns c =
     let l = c.loop-i in
-    let s = c in
-    let a = s.args in
+    let a = c.args in
     let f = time_of_step a.n a.f a.own.0 a.d a.majority a.size a.inflight.now (models_in a.models.now) in
-    least_done total_le f nan _ _ _ _ s.requires.n_nonzero.5 l.invariant.0 c.loop-i-test.false l.invariant.1
-    ∙ ap (λ (k : ℕ). (least_up_to total_le f (k - 1)).0) (sym (steps_all a.d a.majority s.requires.n_nonzero.4 s.requires.n_nonzero.7))
+    least_done total_le f nan _ _ _ _ c.requires.n_nonzero.5 l.invariant.0 c.loop-i-test.false l.invariant.1
+    ∙ ap (λ (k : ℕ). (least_up_to total_le f (k - 1)).0) (sym (steps_all a.d a.majority c.requires.n_nonzero.4 c.requires.n_nonzero.7))

@@ -17,16 +17,12 @@ loop-j-init c =
 pub loop-j-preserved : goal.loop-j-preserved
 unfolding peer_times
 loop-j-preserved c =
-    let g = c in
-    let y = g in
-    let l = y in
-    let s = l in
-    let a = s.args in
+    let a = c.args in
     let t =
-    peer_time_is a.own.0 l.loop-j.j _ _ _ y.loop-j-test.true l.loop-j.invariant.1 y.peer_at-p.ensures a.load a.inflight.now
-    a.models.now _ _ s.requires.times_len_bound.0 g.model_in-model.ensures c.predict.ensures in
+    peer_time_is a.own.0 c.loop-j.j _ _ _ c.loop-j-test.true c.loop-j.invariant.1 c.peer_at-p.ensures a.load a.inflight.now
+    a.models.now _ _ c.requires.times_len_bound.0 c.model_in-model.ensures c.predict.ensures in
     filled_more (λ (k : ℕ). peer_time a.load a.inflight.now (models_in a.models.now) (peer_at a.own.0 k)) _ _ _
-    l.loop-j.invariant _ (omega arith) t
+    c.loop-j.invariant _ (omega arith) t
 
 pub returns : goal.returns
 unfolding peer_times

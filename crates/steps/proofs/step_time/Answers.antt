@@ -19,13 +19,10 @@ returns-then-q-lt2 c =
 pub returns : goal.returns
 unfolding of_bits step_time
 returns c =
-    let o = c in
-    let p = o in
-    let s = p in
-    let l = lent {A = Float} (s.args.n - 1) (replicate 16 plus_zero) (omega arith) in
-    let b = back {A = Float} (s.args.n - 1) (replicate 16 plus_zero) (omega arith) p.peer_times.new.times p.peer_times.auto.times in
+    let l = lent {A = Float} (c.args.n - 1) (replicate 16 plus_zero) (omega arith) in
+    let b = back {A = Float} (c.args.n - 1) (replicate 16 plus_zero) (omega arith) c.peer_times.new.times c.peer_times.auto.times in
     -- the table has room for the peers when their times are in it
-    let room = back_room {A = Float} (s.args.n - 1) (replicate 16 plus_zero) (omega arith) p.peer_times.new.times p.peer_times.auto.times in
-    let e = back {A = Float} (s.args.n - 1) _ room o.sort.new.a o.sort.auto.a in
-    step_is s.args.n s.args.own.0 s.args.q s.args.load _ s.args.inflight.now (models_in s.args.models.now)
-    p.if-q-lt2.false l _ _ _ _ _ p.peer_times.ensures b o.sort.ensures e c.at_or_never.ensures
+    let room = back_room {A = Float} (c.args.n - 1) (replicate 16 plus_zero) (omega arith) c.peer_times.new.times c.peer_times.auto.times in
+    let e = back {A = Float} (c.args.n - 1) _ room c.sort.new.a c.sort.auto.a in
+    step_is c.args.n c.args.own.0 c.args.q c.args.load _ c.args.inflight.now (models_in c.args.models.now)
+    c.if-q-lt2.false l _ _ _ _ _ c.peer_times.ensures b c.sort.ensures e c.at_or_never.ensures

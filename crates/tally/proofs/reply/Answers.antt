@@ -21,8 +21,7 @@ note-requires c =
 
 pub with_replica-heard-requires : goal.with_replica-heard-requires
 with_replica-heard-requires c =
-    let i = c in
-    omega (arith, source_below _ _ _ i.reply_refusal-no.ensures i.if-no-ne0.false)
+    omega (arith, source_below _ _ _ c.reply_refusal-no.ensures c.if-no-ne0.false)
 
 pub commits-commits-requires : goal.commits-commits-requires
 commits-commits-requires c =

@@ -14,6 +14,5 @@ returns-in-Silent c =
 pub returns-in-Heard : goal.returns-in-Heard
 unfolding of_bits div reply_time
 returns-in-Heard c =
-    let heard = c in
-    let a = heard.args in
-    rw (c.settled.ensures, c.predict.ensures) (sym (ap (λ (p : Peer). reply_time p a.x a.penalty) heard.in-Heard.is))
+    let a = c.args in
+    rw (c.settled.ensures, c.predict.ensures) (sym (ap (λ (p : Peer). reply_time p a.x a.penalty) c.in-Heard.is))
