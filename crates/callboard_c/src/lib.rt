@@ -1,5 +1,5 @@
-// The static library: an export for each function of the C interface (include/callboard.h), with the same clauses. Each calls the function of
-// its name in the crate callboard, which has the interface as a library.
+// The static library: an export for each function of the C interface (include/callboard.h), with the same clauses. Each calls the function
+// of its name in the crate callboard, which has the interface as a library.
 #![tactic(auto)]
 
 ghost use Rattle.std.specs.Prelude.{◌≡◌, true, length};
