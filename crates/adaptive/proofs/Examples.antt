@@ -3,7 +3,7 @@
 use mathlib.Core.Path.{◌≡◌, refl}
 use mathlib.Core.Bool.{Bool, true, false}
 use mathlib.Core.List.{List, [], ◌∷◌, ◌++◌, map}
-use mathlib.Core.Option.{Option, none, some}
+use Rattle.std.specs.Prelude.{Option, None, Some}
 use Prim.Native.Nat.{ℕ, ◌-◌, ◌*◌, ◌^◌}
 use lib.Ieee.{Float, add, mul, div, of_int, of_bits}
 use lib.ListN.{take, replicate}
@@ -154,62 +154,62 @@ choices : List Line
 unfolding words line
 choices =
     -- unbalanced, adaptive or not
-    line 3 1 0 4 6 2 0 idle [] 7 laid nine false false (accepted none) laid
-    ∷ line 3 1 0 4 6 2 0 idle [] 7 laid nine true false (accepted none) laid
+    line 3 1 0 4 6 2 0 idle [] 7 laid nine false false (accepted None) laid
+    ∷ line 3 1 0 4 6 2 0 idle [] 7 laid nine true false (accepted None) laid
     -- not adaptive: the count of row 0, 2 to 4; of no other row
-    ∷ line 3 1 0 4 6 2 0 idle [] 7 laid nine false true (accepted (some 2)) (11 ∷ 12 ∷ 13 ∷ [])
-    ∷ line 3 1 0 4 6 2 0 idle [] 7 (7 ∷ 40 ∷ 41 ∷ []) nine false true (accepted (some 3)) (21 ∷ 22 ∷ 23 ∷ [])
-    ∷ line 3 1 0 4 6 2 0 idle [] 7 (15 ∷ 40 ∷ 41 ∷ []) nine false true (accepted (some 4)) (31 ∷ 32 ∷ 33 ∷ [])
-    ∷ line 3 1 0 4 6 2 0 idle [] 7 (48 ∷ 7 ∷ 15 ∷ []) nine false true (accepted (some 2)) (11 ∷ 12 ∷ 13 ∷ [])
+    ∷ line 3 1 0 4 6 2 0 idle [] 7 laid nine false true (accepted (Some 2)) (11 ∷ 12 ∷ 13 ∷ [])
+    ∷ line 3 1 0 4 6 2 0 idle [] 7 (7 ∷ 40 ∷ 41 ∷ []) nine false true (accepted (Some 3)) (21 ∷ 22 ∷ 23 ∷ [])
+    ∷ line 3 1 0 4 6 2 0 idle [] 7 (15 ∷ 40 ∷ 41 ∷ []) nine false true (accepted (Some 4)) (31 ∷ 32 ∷ 33 ∷ [])
+    ∷ line 3 1 0 4 6 2 0 idle [] 7 (48 ∷ 7 ∷ 15 ∷ []) nine false true (accepted (Some 2)) (11 ∷ 12 ∷ 13 ∷ [])
     -- below the counts of the table, with no floor; above them
-    ∷ line 3 0 0 4 6 2 0 idle [] 7 (1 ∷ 40 ∷ 41 ∷ []) nine false true (accepted none) (1 ∷ 40 ∷ 41 ∷ [])
-    ∷ line 3 0 0 4 6 2 0 idle [] 7 (0 ∷ 40 ∷ 41 ∷ []) nine false true (accepted none) (0 ∷ 40 ∷ 41 ∷ [])
-    ∷ line 3 0 0 4 6 2 0 idle [] 7 (31 ∷ 3 ∷ 3 ∷ []) nine false true (accepted none) (31 ∷ 3 ∷ 3 ∷ [])
-    ∷ line 3 1 0 4 6 2 0 idle [] 7 (63 ∷ 3 ∷ 3 ∷ []) nine false true (accepted none) (63 ∷ 3 ∷ 3 ∷ [])
+    ∷ line 3 0 0 4 6 2 0 idle [] 7 (1 ∷ 40 ∷ 41 ∷ []) nine false true (accepted None) (1 ∷ 40 ∷ 41 ∷ [])
+    ∷ line 3 0 0 4 6 2 0 idle [] 7 (0 ∷ 40 ∷ 41 ∷ []) nine false true (accepted None) (0 ∷ 40 ∷ 41 ∷ [])
+    ∷ line 3 0 0 4 6 2 0 idle [] 7 (31 ∷ 3 ∷ 3 ∷ []) nine false true (accepted None) (31 ∷ 3 ∷ 3 ∷ [])
+    ∷ line 3 1 0 4 6 2 0 idle [] 7 (63 ∷ 3 ∷ 3 ∷ []) nine false true (accepted None) (63 ∷ 3 ∷ 3 ∷ [])
     -- the floor is larger: fewer are alive; it is the least, and one more than that
-    ∷ line 3 1 0 4 6 2 0 idle [] 6 laid nine false true (accepted (some 4)) (31 ∷ 32 ∷ 33 ∷ [])
-    ∷ line 3 1 0 4 6 2 0 idle [] 1 laid nine false true (accepted (some 4)) (31 ∷ 32 ∷ 33 ∷ [])
-    ∷ line 3 1 0 4 6 2 0 idle [] 0 laid nine false true (accepted (some 4)) (31 ∷ 32 ∷ 33 ∷ [])
-    ∷ line 3 1 0 4 6 2 0 idle [] 7 (0 ∷ 40 ∷ 41 ∷ []) nine false true (accepted (some 2)) (11 ∷ 12 ∷ 13 ∷ [])
-    ∷ line 3 0 0 4 6 2 0 idle [] 3 (1 ∷ 40 ∷ 41 ∷ []) nine false true (accepted (some 2)) (11 ∷ 12 ∷ 13 ∷ [])
-    ∷ line 4 1 3 3 6 3 0 idle [] 7 (1 ∷ 40 ∷ 41 ∷ 42 ∷ []) twelve false true (accepted (some 2)) (21 ∷ 22 ∷ 23 ∷ 24 ∷ [])
-    ∷ line 4 1 3 3 6 3 0 idle [] 15 (4 ∷ 40 ∷ 41 ∷ 42 ∷ []) twelve false true (accepted (some 1)) (11 ∷ 12 ∷ 13 ∷ 14 ∷ [])
-    ∷ line 4 1 3 3 6 3 0 idle [] 15 (40 ∷ 40 ∷ 41 ∷ 42 ∷ []) twelve false true (accepted (some 2)) (21 ∷ 22 ∷ 23 ∷ 24 ∷ [])
+    ∷ line 3 1 0 4 6 2 0 idle [] 6 laid nine false true (accepted (Some 4)) (31 ∷ 32 ∷ 33 ∷ [])
+    ∷ line 3 1 0 4 6 2 0 idle [] 1 laid nine false true (accepted (Some 4)) (31 ∷ 32 ∷ 33 ∷ [])
+    ∷ line 3 1 0 4 6 2 0 idle [] 0 laid nine false true (accepted (Some 4)) (31 ∷ 32 ∷ 33 ∷ [])
+    ∷ line 3 1 0 4 6 2 0 idle [] 7 (0 ∷ 40 ∷ 41 ∷ []) nine false true (accepted (Some 2)) (11 ∷ 12 ∷ 13 ∷ [])
+    ∷ line 3 0 0 4 6 2 0 idle [] 3 (1 ∷ 40 ∷ 41 ∷ []) nine false true (accepted (Some 2)) (11 ∷ 12 ∷ 13 ∷ [])
+    ∷ line 4 1 3 3 6 3 0 idle [] 7 (1 ∷ 40 ∷ 41 ∷ 42 ∷ []) twelve false true (accepted (Some 2)) (21 ∷ 22 ∷ 23 ∷ 24 ∷ [])
+    ∷ line 4 1 3 3 6 3 0 idle [] 15 (4 ∷ 40 ∷ 41 ∷ 42 ∷ []) twelve false true (accepted (Some 1)) (11 ∷ 12 ∷ 13 ∷ 14 ∷ [])
+    ∷ line 4 1 3 3 6 3 0 idle [] 15 (40 ∷ 40 ∷ 41 ∷ 42 ∷ []) twelve false true (accepted (Some 2)) (21 ∷ 22 ∷ 23 ∷ 24 ∷ [])
     -- the table is empty
-    ∷ line 3 1 0 4 6 2 0 idle [] 7 laid [] false true (accepted none) laid
-    ∷ line 3 1 0 4 6 2 0 idle [] 1 laid [] true true (accepted none) laid
+    ∷ line 3 1 0 4 6 2 0 idle [] 7 laid [] false true (accepted None) laid
+    ∷ line 3 1 0 4 6 2 0 idle [] 1 laid [] true true (accepted None) laid
     -- adaptive: 2 MiB to each of two peers, or 4 MiB to one; of equal times the first
-    ∷ line 3 1 0 4 6 2 4194300 idle (still ∷ model one 0 0 ∷ model one 0 0 ∷ []) 7 laid nine true true (accepted (some 2)) (11 ∷ 12 ∷ 13 ∷ [])
-    ∷ line 3 1 0 4 6 2 4194300 idle (still ∷ model one 0 0 ∷ model one ten 0 ∷ []) 7 laid nine true true (accepted (some 4)) (31 ∷ 32 ∷ 33 ∷ [])
-    ∷ line 3 1 0 4 6 2 4194300 idle (still ∷ model one 0 0 ∷ model one two 0 ∷ []) 7 laid nine true true (accepted (some 2)) (11 ∷ 12 ∷ 13 ∷ [])
-    ∷ line 3 1 0 4 6 2 4194300 idle (still ∷ model one 0 0 ∷ model one one two ∷ []) 7 laid nine true true (accepted (some 4)) (31 ∷ 32 ∷ 33 ∷ [])
-    ∷ line 3 1 0 4 6 2 4194300 idle (still ∷ model one ten 0 ∷ model one 0 0 ∷ []) 7 laid nine true true (accepted (some 4)) (31 ∷ 32 ∷ 33 ∷ [])
+    ∷ line 3 1 0 4 6 2 4194300 idle (still ∷ model one 0 0 ∷ model one 0 0 ∷ []) 7 laid nine true true (accepted (Some 2)) (11 ∷ 12 ∷ 13 ∷ [])
+    ∷ line 3 1 0 4 6 2 4194300 idle (still ∷ model one 0 0 ∷ model one ten 0 ∷ []) 7 laid nine true true (accepted (Some 4)) (31 ∷ 32 ∷ 33 ∷ [])
+    ∷ line 3 1 0 4 6 2 4194300 idle (still ∷ model one 0 0 ∷ model one two 0 ∷ []) 7 laid nine true true (accepted (Some 2)) (11 ∷ 12 ∷ 13 ∷ [])
+    ∷ line 3 1 0 4 6 2 4194300 idle (still ∷ model one 0 0 ∷ model one one two ∷ []) 7 laid nine true true (accepted (Some 4)) (31 ∷ 32 ∷ 33 ∷ [])
+    ∷ line 3 1 0 4 6 2 4194300 idle (still ∷ model one ten 0 ∷ model one 0 0 ∷ []) 7 laid nine true true (accepted (Some 4)) (31 ∷ 32 ∷ 33 ∷ [])
     -- four bytes more, and one less; no bytes at all
-    ∷ line 3 1 0 4 6 2 4194304 idle (still ∷ model one 0 0 ∷ model one two 0 ∷ []) 7 laid nine true true (accepted (some 2)) (11 ∷ 12 ∷ 13 ∷ [])
-    ∷ line 3 1 0 4 6 2 4194299 idle (still ∷ model one 0 0 ∷ model one two 0 ∷ []) 7 laid nine true true (accepted (some 4)) (31 ∷ 32 ∷ 33 ∷ [])
-    ∷ line 3 1 0 4 6 2 0 idle (still ∷ model one 0 0 ∷ model one two 0 ∷ []) 7 laid nine true true (accepted (some 4)) (31 ∷ 32 ∷ 33 ∷ [])
+    ∷ line 3 1 0 4 6 2 4194304 idle (still ∷ model one 0 0 ∷ model one two 0 ∷ []) 7 laid nine true true (accepted (Some 2)) (11 ∷ 12 ∷ 13 ∷ [])
+    ∷ line 3 1 0 4 6 2 4194299 idle (still ∷ model one 0 0 ∷ model one two 0 ∷ []) 7 laid nine true true (accepted (Some 4)) (31 ∷ 32 ∷ 33 ∷ [])
+    ∷ line 3 1 0 4 6 2 0 idle (still ∷ model one 0 0 ∷ model one two 0 ∷ []) 7 laid nine true true (accepted (Some 4)) (31 ∷ 32 ∷ 33 ∷ [])
     -- three steps, of which the second is the least
-    ∷ line 4 1 0 3 6 3 3145725 idle (still ∷ model one 0 0 ∷ model one 0 0 ∷ model one ten 0 ∷ []) 15 (1 ∷ 40 ∷ 41 ∷ 42 ∷ []) twelve true true (accepted (some 2)) (21 ∷ 22 ∷ 23 ∷ 24 ∷ [])
+    ∷ line 4 1 0 3 6 3 3145725 idle (still ∷ model one 0 0 ∷ model one 0 0 ∷ model one ten 0 ∷ []) 15 (1 ∷ 40 ∷ 41 ∷ 42 ∷ []) twelve true true (accepted (Some 2)) (21 ∷ 22 ∷ 23 ∷ 24 ∷ [])
     -- bytes in flight; our own is the last; a peer that is not alive counts all the same
-    ∷ line 3 1 0 4 6 2 4194300 (0 ∷ 0 ∷ 3145728 ∷ []) (still ∷ model one 0 0 ∷ model one 0 0 ∷ []) 7 laid nine true true (accepted (some 4)) (31 ∷ 32 ∷ 33 ∷ [])
-    ∷ line 3 1 2 4 6 2 4194300 (0 ∷ 0 ∷ 3145728 ∷ []) (model one 0 0 ∷ model one 0 0 ∷ model two ten ten ∷ []) 7 laid nine true true (accepted (some 2)) (11 ∷ 12 ∷ 13 ∷ [])
-    ∷ line 4 1 0 4 6 2 4194300 idle (still ∷ model one 0 0 ∷ model one 0 0 ∷ model one ten 0 ∷ []) 13 (3 ∷ 40 ∷ 41 ∷ 42 ∷ []) twelve true true (accepted (some 2)) (11 ∷ 12 ∷ 13 ∷ 14 ∷ [])
+    ∷ line 3 1 0 4 6 2 4194300 (0 ∷ 0 ∷ 3145728 ∷ []) (still ∷ model one 0 0 ∷ model one 0 0 ∷ []) 7 laid nine true true (accepted (Some 4)) (31 ∷ 32 ∷ 33 ∷ [])
+    ∷ line 3 1 2 4 6 2 4194300 (0 ∷ 0 ∷ 3145728 ∷ []) (model one 0 0 ∷ model one 0 0 ∷ model two ten ten ∷ []) 7 laid nine true true (accepted (Some 2)) (11 ∷ 12 ∷ 13 ∷ [])
+    ∷ line 4 1 0 4 6 2 4194300 idle (still ∷ model one 0 0 ∷ model one 0 0 ∷ model one ten 0 ∷ []) 13 (3 ∷ 40 ∷ 41 ∷ 42 ∷ []) twelve true true (accepted (Some 2)) (11 ∷ 12 ∷ 13 ∷ 14 ∷ [])
     -- more to hear from than there are; nobody to hear from
-    ∷ line 3 2 0 4 6 2 4194300 idle (still ∷ model one 0 0 ∷ model one 0 0 ∷ []) 7 laid nine true true (accepted (some 4)) (31 ∷ 32 ∷ 33 ∷ [])
-    ∷ line 3 0 0 4 6 2 4194300 idle (still ∷ model one 0 0 ∷ model one 0 0 ∷ []) 7 laid nine true true (accepted (some 4)) (31 ∷ 32 ∷ 33 ∷ [])
-    ∷ line 1 0 0 2 2 1 0 [] [] 1 (1 ∷ []) (2 ∷ []) true true (accepted (some 2)) (2 ∷ [])
+    ∷ line 3 2 0 4 6 2 4194300 idle (still ∷ model one 0 0 ∷ model one 0 0 ∷ []) 7 laid nine true true (accepted (Some 4)) (31 ∷ 32 ∷ 33 ∷ [])
+    ∷ line 3 0 0 4 6 2 4194300 idle (still ∷ model one 0 0 ∷ model one 0 0 ∷ []) 7 laid nine true true (accepted (Some 4)) (31 ∷ 32 ∷ 33 ∷ [])
+    ∷ line 1 0 0 2 2 1 0 [] [] 1 (1 ∷ []) (2 ∷ []) true true (accepted (Some 2)) (2 ∷ [])
     -- what the models favour is below the floor
-    ∷ line 3 1 0 4 6 2 4194300 idle (still ∷ model one 0 0 ∷ model one 0 0 ∷ []) 5 laid nine true true (accepted (some 4)) (31 ∷ 32 ∷ 33 ∷ [])
+    ∷ line 3 1 0 4 6 2 4194300 idle (still ∷ model one 0 0 ∷ model one 0 0 ∷ []) 5 laid nine true true (accepted (Some 4)) (31 ∷ 32 ∷ 33 ∷ [])
     -- our own bytes in flight are unread; the most that may be
-    ∷ line 3 1 0 4 6 2 0 (1099511627777 ∷ 0 ∷ 0 ∷ []) [] 7 laid nine false true (accepted (some 2)) (11 ∷ 12 ∷ 13 ∷ [])
-    ∷ line 3 1 1 4 6 2 0 (0 ∷ 1099511627777 ∷ 0 ∷ []) [] 7 laid nine false true (accepted (some 2)) (11 ∷ 12 ∷ 13 ∷ [])
-    ∷ line 3 1 0 4 6 2 1073741824 (0 ∷ 1099511627776 ∷ 1099511627776 ∷ []) [] 7 laid nine false true (accepted (some 2)) (11 ∷ 12 ∷ 13 ∷ [])
+    ∷ line 3 1 0 4 6 2 0 (1099511627777 ∷ 0 ∷ 0 ∷ []) [] 7 laid nine false true (accepted (Some 2)) (11 ∷ 12 ∷ 13 ∷ [])
+    ∷ line 3 1 1 4 6 2 0 (0 ∷ 1099511627777 ∷ 0 ∷ []) [] 7 laid nine false true (accepted (Some 2)) (11 ∷ 12 ∷ 13 ∷ [])
+    ∷ line 3 1 0 4 6 2 1073741824 (0 ∷ 1099511627776 ∷ 1099511627776 ∷ []) [] 7 laid nine false true (accepted (Some 2)) (11 ∷ 12 ∷ 13 ∷ [])
     -- the largest numbers
-    ∷ line 16 15 15 64 64 16 0 (replicate 16 1099511627776) [] 65535 (replicate 16 18446744073709551615) [] false true (accepted none) (replicate 16 18446744073709551615)
-    ∷ line 16 15 15 255 255 15 0 (replicate 16 1099511627776) [] 65535 (replicate 16 (2 ^ 255 - 1)) [] false true (accepted none) (replicate 16 (2 ^ 255 - 1))
+    ∷ line 16 15 15 64 64 16 0 (replicate 16 1099511627776) [] 65535 (replicate 16 18446744073709551615) [] false true (accepted None) (replicate 16 18446744073709551615)
+    ∷ line 16 15 15 255 255 15 0 (replicate 16 1099511627776) [] 65535 (replicate 16 (2 ^ 255 - 1)) [] false true (accepted None) (replicate 16 (2 ^ 255 - 1))
     -- counts above 64: of row 0, and of the floor
-    ∷ line 1 0 0 70 70 1 0 [] [] 1 ((2 ^ 70 - 1) ∷ []) ((2 ^ 69) ∷ []) false true (accepted (some 70)) ((2 ^ 69) ∷ [])
-    ∷ line 2 0 0 130 130 2 0 (0 ∷ 0 ∷ []) [] 3 ((2 ^ 66 - 1) ∷ 0 ∷ []) (each_below (λ (i : ℕ). 2 ^ i) 130 ++ (1 ∷ 2 ∷ [])) false true (accepted (some 66)) (4 ∷ 8 ∷ [])
+    ∷ line 1 0 0 70 70 1 0 [] [] 1 ((2 ^ 70 - 1) ∷ []) ((2 ^ 69) ∷ []) false true (accepted (Some 70)) ((2 ^ 69) ∷ [])
+    ∷ line 2 0 0 130 130 2 0 (0 ∷ 0 ∷ []) [] 3 ((2 ^ 66 - 1) ∷ 0 ∷ []) (each_below (λ (i : ℕ). 2 ^ i) 130 ++ (1 ∷ 2 ∷ [])) false true (accepted (Some 66)) (4 ∷ 8 ∷ [])
     ∷ []
 
 -- what both entries come to

@@ -4,7 +4,8 @@ use Rattle.std.proofs.Common.{sym, ◌∙◌, true≢false, mul_comm, suc-mul, m
 use Rattle.std.proofs.Math.Path.{ap}
 use Rattle.std.proofs.Math.Logic.{inl, inr, ⊎_elim}
 use Rattle.std.proofs.Math.Bool.{and-eq-true_iff}
-use Rattle.std.proofs.Math.Option.{Option, none, some, some-injective, some-ne-none, none-ne-some}
+use Rattle.std.specs.Prelude.{Option, None, Some}
+use Rattle.lists.specs.OptionLaws.{some-injective, some-ne-none, none-ne-some}
 use Prim.Native.Nat.{ℕ, suc, ◌+◌, ◌-◌, ◌*◌, ◌/◌, ◌%◌, ◌≤◌, ◌<◌, min, max}
 use Rattle.std.proofs.Math.Nat.{mul-pos, le_of_mul-le-mul_right, sub-eq-zero_of_le}
 use Rattle.std.proofs.Math.Decide.{dec_lt, dec_le, ℕ_discrete}
@@ -132,20 +133,20 @@ rows_inside n d majority c len a b e =
 
 -- a choice that is made where a test holds
 module _ (t : Bool) (o : Option ℕ) where
-  made : (c : ℕ) → (cond t o none ≡ some c) ↔ ((t ≡ true) × (o ≡ some c))
+  made : (c : ℕ) → (cond t o None ≡ Some c) ↔ ((t ≡ true) × (o ≡ Some c))
   made c = go t
     where
-      go : (t : Bool) → (cond t o none ≡ some c) ↔ ((t ≡ true) × (o ≡ some c))
+      go : (t : Bool) → (cond t o None ≡ Some c) ↔ ((t ≡ true) × (o ≡ Some c))
       go true = (λ e. (refl, e), λ h. h.1)
       go false = (λ e. absurd (none-ne-some c e), λ h. absurd (true≢false (sym h.0)))
 
-  unmade : (cond t o none ≡ none) ↔ ((t ≡ false) ⊎ (o ≡ none))
+  unmade : (cond t o None ≡ None) ↔ ((t ≡ false) ⊎ (o ≡ None))
   unmade = go t
     where
-      go : (t : Bool) → (cond t o none ≡ none) ↔ ((t ≡ false) ⊎ (o ≡ none))
+      go : (t : Bool) → (cond t o None ≡ None) ↔ ((t ≡ false) ⊎ (o ≡ None))
       go true = (λ e. inr e, λ h. else_made h)
         where
-          else_made : (true ≡ false) ⊎ (o ≡ none) → o ≡ none
+          else_made : (true ≡ false) ⊎ (o ≡ None) → o ≡ None
           else_made (inl e) = absurd (true≢false e)
           else_made (inr e) = e
       go false = (λ e. inl refl, λ h. refl)
@@ -173,13 +174,13 @@ module _ (n f own d w majority size : ℕ) (inflight : List ℕ) (models : List 
     pub least : d / majority ≤ c
     pub most : c ≤ d
 
-  pub choice_means : (c : ℕ) → (policy ≡ accepted (some c)) ↔ Chosen c
+  pub choice_means : (c : ℕ) → (policy ≡ accepted (Some c)) ↔ Chosen c
   unfolding policy_of
   choice_means c =
       let has = has_count d majority (length table) larger in
-      let a = accepted_means number (cond balanced (cond has (some larger) none) none) (some c) in
-      let b = made balanced (cond has (some larger) none) c in
-      let k = made has (some larger) c in (
+      let a = accepted_means number (cond balanced (cond has (Some larger) None) None) (Some c) in
+      let b = made balanced (cond has (Some larger) None) c in
+      let k = made has (Some larger) c in (
         λ e.
             let p = a.0 e in
             let q = b.0 p.1 in
@@ -194,20 +195,20 @@ module _ (n f own d w majority size : ℕ) (inflight : List ℕ) (models : List 
                 h.is_balanced,
                 k.1 (
                   (count_there d majority (length table) larger).1 (h.filled, omega (arith, h.least, h.is_larger), omega (arith, h.most, h.is_larger)),
-                  ap some h.is_larger,
+                  ap Some h.is_larger,
                 ),
               ),
             ),
       )
 
   -- it is the initial layout exactly if nothing refuses, and the input is unbalanced, or the table is empty, or it lacks the larger of choice and floor
-  pub initial_means : (policy ≡ accepted none) ↔ ((number ≡ 0) × ((balanced ≡ false) ⊎ ((length table ≡ 0) ⊎ ((larger < d / majority) ⊎ (d < larger)))))
+  pub initial_means : (policy ≡ accepted None) ↔ ((number ≡ 0) × ((balanced ≡ false) ⊎ ((length table ≡ 0) ⊎ ((larger < d / majority) ⊎ (d < larger)))))
   unfolding policy_of
   initial_means =
       let has = has_count d majority (length table) larger in
-      let a = accepted_means number (cond balanced (cond has (some larger) none) none) none in
-      let b = unmade balanced (cond has (some larger) none) in
-      let k = unmade has (some larger) in
+      let a = accepted_means number (cond balanced (cond has (Some larger) None) None) None in
+      let b = unmade balanced (cond has (Some larger) None) in
+      let k = unmade has (Some larger) in
       let l = count_lacking d majority (length table) larger in (
         λ e. ((a.0 e).0, ⊎_elim (λ u. inl u) (λ u. inr (⊎_elim (λ v. l.0 v) (λ v. absurd (some-ne-none larger v)) (k.0 u))) (b.0 (a.0 e).1)),
         λ h. a.1 (h.0, b.1 (⊎_elim (λ u. inl u) (λ u. inr (k.1 (inl (l.1 u)))) h.1)),
@@ -216,10 +217,10 @@ module _ (n f own d w majority size : ℕ) (inflight : List ℕ) (models : List 
   -- and refused with k exactly if k refuses
   pub refused_means : (k : ℕ) → (policy ≡ refused k) ↔ ((number ≡ k) × (k ≡ 0 → ⊥))
   unfolding policy_of
-  refused_means k = Outcomes.refused_means number (cond balanced (choice_of d majority (length table) larger) none) k
+  refused_means k = Outcomes.refused_means number (cond balanced (choice_of d majority (length table) larger) None) k
 
   -- a chosen count is at least the floor
-  pub choice_floor : (c : ℕ) → policy ≡ accepted (some c) → floor_of f d majority (count alive) ≤ c
+  pub choice_floor : (c : ℕ) → policy ≡ accepted (Some c) → floor_of f d majority (count alive) ≤ c
   choice_floor c e = omega (arith, ((choice_means c).0 e).is_larger)
 
   -- ---- the rows, as the contract of `pick_assignment_policy_rows` has them
@@ -228,14 +229,14 @@ module _ (n f own d w majority size : ℕ) (inflight : List ℕ) (models : List 
 
   pub record RowsAre : Type 0 where
     pub on_refusal : (k : ℕ) → policy ≡ refused k → rows ≡ []
-    pub on_initial : policy ≡ accepted none → rows ≡ rows_in initial
-    pub on_count : (c : ℕ) → policy ≡ accepted (some c)
+    pub on_initial : policy ≡ accepted None → rows ≡ rows_in initial
+    pub on_count : (c : ℕ) → policy ≡ accepted (Some c)
         → (length rows ≡ n)
         × ((s : ℕ) → s < n → (((c - d / majority) * n + s) * 4 + 4 ≤ length table) × (get_or rows s 0 ≡ row_in table ((c - d / majority) * n + s)))
 
   -- the table has the rows of a count that is chosen
-  module _ (c : ℕ) (e : policy ≡ accepted (some c)) where
-    pub count_held : Holds n d majority (accepted (some c)) (length initial) (length table)
+  module _ (c : ℕ) (e : policy ≡ accepted (Some c)) where
+    pub count_held : Holds n d majority (accepted (Some c)) (length initial) (length table)
     count_held =
         let h = (choice_means c).0 e in
         let s = (policy_sound n f own d w majority size inflight models alive initial table).0 h.unrefused in
@@ -260,9 +261,9 @@ module _ (n f own d w majority size : ℕ) (inflight : List ℕ) (models : List 
   pub rows_are : RowsAre
   rows_are = record {
     on_refusal = λ k e. rows_by (refused k) e;
-    on_initial = λ e. rows_by (accepted none) e;
+    on_initial = λ e. rows_by (accepted None) e;
     on_count = λ c e.
-        let q = rows_by (accepted (some c)) e in
+        let q = rows_by (accepted (Some c)) e in
         rw q (part_length c e, λ s l. (omega (arith, rows_end c e, whole_rows c e), part_at c e s l ∙ rows_at table ((c - d / majority) * n + s)));
   }
 
@@ -275,8 +276,8 @@ module _ (n f own d w majority size : ℕ) (inflight : List ℕ) (models : List 
 
       go : (o : Outcome (Option ℕ)) → policy ≡ o → AreRows n w (rows_of n d majority o (rows_in initial) (rows_in table))
       go (refused k) e = absurd (((refused_means k).0 e).1 (sym ((refused_means k).0 e).0 ∙ z))
-      go (accepted none) e = (rows_length initial n s.initial_rows, (all_means (is_row w) 0 (rows_in initial)).1 s.each_initial)
-      go (accepted (some c)) e = (
+      go (accepted None) e = (rows_length initial n s.initial_rows, (all_means (is_row w) 0 (rows_in initial)).1 s.each_initial)
+      go (accepted (Some c)) e = (
         part_length c e,
         (all_means (is_row w) 0 (rows_for n d majority c (rows_in table))).1 (λ k l.
             let m : k < n = omega (arith, part_length c e) in

@@ -3,10 +3,8 @@ use Rattle.std.specs.Prelude.{List, [], ◌∷◌, ℕ, ◌+◌, ◌-◌, ◌*�
 use Rattle.bitmap.specs.Mask.{count}
 use Rattle.refusals.specs.Numbers.{POPULATION, TOLERANCE, SHARDS, QUORUM, MULTIPLE, MASK}
 use Rattle.refusals.specs.First.{Case, unless, first_of}
-use Rattle.refusals.specs.Outcome.{Outcome, refused, accepted, outcome}
+use Rattle.refusals.specs.Outcome.{Outcome, outcome}
 use Rattle.refusals.specs.Limits.{is_population, is_tolerance, is_shards, is_quorum, is_mask}
-use Rattle.adaptive.specs.declared.Floor.{Floor}
-use Rattle.adaptive.specs.declared.Floor.TheVariants.{Refused, Shards}
 
 -- min((majority + f + 1 - alive, not below 0) × (d / majority), d)
 unfoldable pub floor_of : ℕ → ℕ → ℕ → ℕ → ℕ
@@ -24,11 +22,6 @@ floor_cases n f d majority alive =
 
 unfoldable pub floor_refusal : ℕ → ℕ → ℕ → ℕ → ℕ → ℕ
 floor_refusal n f d majority alive = first_of (floor_cases n f d majority alive)
-
--- what an answer is: the number that refuses, or the floor
-abbrev pub floored : Floor → Outcome ℕ
-floored (Refused k) = refused k
-floored (Shards k) = accepted k
 
 unfoldable pub min_shards_of : ℕ → ℕ → ℕ → ℕ → ℕ → Outcome ℕ
 min_shards_of n f d majority alive = outcome (floor_refusal n f d majority alive) (floor_of f d majority (count alive))

@@ -1,6 +1,6 @@
 -- The balanced policy (`pick_assignment_policy`): the choice, and the rows that it stands for. Assumes nothing.
 use Rattle.std.specs.Prelude.{◌≡◌, Bool, not, cond, ◌&&◌, ◌||◌, List, [], ◌∷◌, ℕ, suc, ◌-◌, ◌*◌, ◌/◌, ◌%◌, ◌≤◌, ◌<◌, max, leb, eqb, Float, length, take, drop}
-use Rattle.std.proofs.Math.Option.{Option, none, some}
+use Rattle.std.specs.Prelude.{Option, None, Some}
 use Rattle.bitmap.specs.Mask.{count}
 use Rattle.rows.specs.Row.{row_in}
 use Rattle.refusals.specs.Numbers.{POPULATION, TOLERANCE, REPLICA, SHARDS, QUORUM, MULTIPLE, BYTES, MASK, TABLE}
@@ -9,7 +9,7 @@ use Rattle.refusals.specs.Outcome.{Outcome, refused, accepted, outcome}
 use Rattle.refusals.specs.Limits.{most_shards, is_population, is_tolerance, is_replica, is_shards, is_quorum, is_size, peers_fit, is_mask, are_rows, is_table}
 use Rattle.times.specs.Times.{models_in}
 use Rattle.adaptive.specs.declared.Policy.{Policy}
-use Rattle.adaptive.specs.declared.Policy.TheVariants.{Refused, Initial, Balanced}
+use Rattle.adaptive.specs.declared.Policy.TheVariants.{Initial, Balanced}
 use Rattle.adaptive.specs.Floor.{floor_of}
 use Rattle.steps.specs.Steps.{in_flight, step_shards, best_step}
 
@@ -61,29 +61,28 @@ best_shards n f own d majority size inflight models initial adaptive =
 
 -- the initial layout (none), or a count of the table
 abbrev pub choice_of : ℕ → ℕ → ℕ → ℕ → Option ℕ
-choice_of d majority len shards = cond (has_count d majority len shards) (some shards) none
+choice_of d majority len shards = cond (has_count d majority len shards) (Some shards) None
 
--- what an answer is: the number that refuses, or the choice
-abbrev pub chosen : Policy → Outcome (Option ℕ)
-chosen (Refused k) = refused k
-chosen Initial = accepted none
-chosen (Balanced shards) = accepted (some shards)
+-- what the code's choice is
+abbrev pub chosen : Policy → Option ℕ
+chosen Initial = None
+chosen (Balanced shards) = Some shards
 
 -- unbalanced gives the initial layout; else the larger of choice and floor picks the rows, and a count that the table lacks gives the initial layout
 unfoldable pub policy_of : ℕ → ℕ → ℕ → ℕ → ℕ → ℕ → ℕ → List ℕ → List Float → ℕ → List ℕ → List ℕ → Bool → Bool → Outcome (Option ℕ)
 policy_of n f own d w majority size inflight models alive initial table adaptive balanced =
     outcome (policy_refusal n f own d w majority size inflight models alive initial table)
-    (cond balanced (choice_of d majority (length table) (max (best_shards n f own d majority size inflight models initial adaptive) (floor_of f d majority (count alive)))) none)
+    (cond balanced (choice_of d majority (length table) (max (best_shards n f own d majority size inflight models initial adaptive) (floor_of f d majority (count alive)))) None)
 
 -- ---- the rows of a choice, of the rows of the two tables: none where the input is refused, the initial layout, or those of the count
 abbrev pub rows_of : ℕ → ℕ → ℕ → Outcome (Option ℕ) → List ℕ → List ℕ → List ℕ
 rows_of n d majority (refused k) initial table = []
-rows_of n d majority (accepted none) initial table = initial
-rows_of n d majority (accepted (some shards)) initial table = rows_for n d majority shards table
+rows_of n d majority (accepted None) initial table = initial
+rows_of n d majority (accepted (Some shards)) initial table = rows_for n d majority shards table
 
 -- two tables of so many words have those of the choice
 abbrev pub Holds : ℕ → ℕ → ℕ → Outcome (Option ℕ) → ℕ → ℕ → Type 0
 Holds n d majority (refused k) initial table = Unit
-Holds n d majority (accepted none) initial table = initial ≡ n * 4
-Holds n d majority (accepted (some shards)) initial table =
+Holds n d majority (accepted None) initial table = initial ≡ n * 4
+Holds n d majority (accepted (Some shards)) initial table =
     (n ≤ 16) × (d ≤ most_shards) × (0 < majority) × (d / majority ≤ shards) × (shards ≤ d) × (table ≡ n * suc (d - d / majority) * 4)

@@ -2,45 +2,73 @@
 // models favour (pick_assignment_policy), as a choice and as the rows that it stands for.
 #![tactic(auto)]
 
-ghost use Rattle.std.specs.Prelude.{◌≡◌, ◌+◌, ◌*◌, ◌%◌, ◌≤◌, ◌<◌, ◌^◌, max, length, take, drop};
+ghost use Rattle.std.specs.Prelude.{◌≡◌, ◌+◌, ◌*◌, ◌≤◌, ◌<◌, ◌^◌, length, take, drop};
 ghost use Rattle.rows.specs.Row.{rows_in, spelled};
-ghost use Rattle.refusals.specs.Limits.{most_shards, peers_fit};
-ghost use Rattle.refusals.specs.LimitLaws.{InFlight};
-ghost use Rattle.steps.specs.Steps.{in_flight};
-ghost use Rattle.adaptive.specs.Floor.{floor_of, floor_refusal, floored, min_shards_of};
+ghost use Rattle.refusals.specs.Limits.{most_shards};
+ghost use Rattle.refusals.specs.Outcome.{accepted};
+ghost use Rattle.refusals.specs.Refused.{refusal_of, outcome_of, outcome_by};
+ghost use Rattle.adaptive.specs.Floor.{floor_of, floor_refusal, min_shards_of};
 ghost use Rattle.adaptive.specs.Policy.{is_balanced_table, has_count, best_shards, policy_refusal, chosen, policy_of, rows_of, Holds};
 
 use bitmap::ReplicaId;
-
-// The fewest shards a replica.
-#[derive(Clone, Copy)]
-pub enum Floor {
-    Refused(u8),
-    Shards(usize),
-}
+use refusals::{Refusal, unless};
+use rows::{Row, ShardSet};
+use steps::{Peers, Scheme};
 
 // The initial layout, or the rows of so many shards a replica of the balanced table.
-#[derive(Clone, Copy)]
+// Kept as it is: the new form is no plainer, since the names of Option do not say which table the rows come from.
+#[derive(Clone, Copy, Debug, PartialEq, Eq)]
 pub enum Policy {
-    Refused(u8),
     Initial,
     Balanced(usize),
 }
 
-// The fewest shards a replica, all having equally many, with which those alive still answer.
-pub fn min_shards_per_replica(n: usize, f: usize, d: usize, majority: usize, alive: u64) -> Floor
-    ensures { floored result ≡ min_shards_of n f d majority alive }
-{
-    let no = floor_refusal(n, f, d, majority, alive);
-    if no != 0 {
-        return Floor::Refused(no);
+impl Policy {
+    // The rows of the choice. A part: the tables have them.
+    fn rows<'a>(
+        self,
+        n: usize,
+        d: usize,
+        majority: usize,
+        initial: &'a [u64],
+        table: &'a [u64],
+    ) -> &'a [u64]
+        requires { Holds n d majority (accepted (chosen self)) (length initial.now) (length table.now) }
+        ensures { result.now ≡ spelled (rows_of n d majority (accepted (chosen self)) (rows_in initial.now) (rows_in table.now)) }
+    {
+        match self {
+            Policy::Initial => initial,
+            Policy::Balanced(shards) => rows_from(n, (shards - d / majority) * n, table),
+        }
     }
-    Floor::Shards(floor_of(f, d, majority, bitmap::count(alive)))
+}
+
+// The fewest shards a replica, all having equally many, with which those alive still answer.
+#[tactic(auto, unfolding(crate::specs::Floor::min_shards_of))]
+pub fn min_shards_per_replica(
+    n: usize,
+    f: usize,
+    d: usize,
+    majority: usize,
+    alive: u64,
+) -> Result<usize, Refusal>
+    ensures { outcome_of result ≡ min_shards_of n f d majority alive }
+{
+    check_floor(n, f, d, majority, alive)?;
+    let scheme = Scheme {
+        population: n,
+        tolerance: f,
+        data_shards: d,
+        majority,
+    };
+    Ok(floor_of(scheme, bitmap::count(alive)))
 }
 
 // Picks the assignment for a value of `size` bytes and the peers now alive: the initial layout, or a count of the balanced table, which has
 // n rows for each count from d / majority to d, or nothing. A row has four words. Of each replica `inflight` has the bytes in flight to it,
 // and `models` three numbers: slope in ms a MiB, delay and jitter in ms.
+// Kept as it is: the C interface passes the parameters one by one.
+#[tactic(auto, unfolding(crate::specs::Policy::policy_of))]
 pub fn pick_assignment_policy(
     n: usize,
     f: usize,
@@ -56,26 +84,33 @@ pub fn pick_assignment_policy(
     table: &[u64],
     adaptive: bool,
     balanced: bool,
-) -> Policy
-    ensures { chosen result ≡ policy_of n f own.0 d w majority size inflight.now models.now alive initial.now table.now adaptive balanced }
+) -> Result<Policy, Refusal>
+    ensures { outcome_by chosen result ≡ policy_of n f own.0 d w majority size inflight.now models.now alive initial.now table.now adaptive balanced }
 {
-    let no = policy_refusal(
+    check_policy(
         n, f, own, d, w, majority, size, inflight, models, alive, initial, table,
-    );
-    if no != 0 {
-        return Policy::Refused(no);
-    }
+    )?;
     if !balanced {
-        return Policy::Initial;
+        return Ok(Policy::Initial);
     }
-    let best = best_shards(
-        n, f, own, d, majority, size, inflight, models, initial, adaptive,
-    );
-    let shards = larger(best, floor_of(f, d, majority, bitmap::count(alive)));
-    if has_count(d, majority, table.len(), shards) {
-        return Policy::Balanced(shards);
+    let scheme = Scheme {
+        population: n,
+        tolerance: f,
+        data_shards: d,
+        majority,
+    };
+    let peers = Peers {
+        own,
+        inflight,
+        models,
+    };
+    let best = best_shards(scheme, &peers, size, initial, adaptive);
+    let shards = best.max(floor_of(scheme, bitmap::count(alive)));
+    if has_count(scheme, table.len(), shards) {
+        Ok(Policy::Balanced(shards))
+    } else {
+        Ok(Policy::Initial)
     }
-    Policy::Initial
 }
 
 // The rows of that choice: a part of one of the two lent tables, empty where the input is refused.
@@ -109,55 +144,42 @@ pub fn rows_of<'a>(
     n: usize,
     d: usize,
     majority: usize,
-    choice: Policy,
+    choice: Result<Policy, Refusal>,
     initial: &'a [u64],
     table: &'a [u64],
 ) -> &'a [u64]
-    requires { Holds n d majority (chosen choice) (length initial.now) (length table.now) }
-    ensures { result.now ≡ spelled (rows_of n d majority (chosen choice) (rows_in initial.now) (rows_in table.now)) }
+    requires { Holds n d majority (outcome_by chosen choice) (length initial.now) (length table.now) }
+    ensures { result.now ≡ spelled (rows_of n d majority (outcome_by chosen choice) (rows_in initial.now) (rows_in table.now)) }
 {
     match choice {
-        Policy::Refused(_) => &initial[..0],
-        Policy::Initial => initial,
-        Policy::Balanced(shards) => rows_from(n, (shards - d / majority) * n, table),
+        Ok(policy) => policy.rows(n, d, majority, initial, table),
+        Err(_) => &[],
     }
 }
 
-// The n rows from the row k on, of four words each. A part: the table has them, and is small.
+// The n rows from the row k on, of four words each. A part: the table has them.
 fn rows_from<'a>(n: usize, k: usize, table: &'a [u64]) -> &'a [u64]
-    requires { ((k + n) * 4 ≤ length table.now) × (k + n ≤ 4096) }
+    requires { (k + n) * 4 ≤ length table.now }
     ensures { result.now ≡ take (n * 4) (drop (k * 4) table.now) }
 {
-    let from = k * 4;
-    let words = n * 4;
-    &table[from..from + words]
+    &table[k * 4..][..n * 4]
 }
 
-fn floor_refusal(n: usize, f: usize, d: usize, majority: usize, alive: u64) -> u8
-    ensures { result ≡ floor_refusal n f d majority alive }
+#[tactic(auto, unfolding(crate::specs::Floor::floor_refusal))]
+fn check_floor(n: usize, f: usize, d: usize, majority: usize, alive: u64) -> Result<(), Refusal>
+    ensures { refusal_of result ≡ floor_refusal n f d majority alive }
 {
-    if !refusals::is_population(n) {
-        return refusals::POPULATION;
-    }
-    if !refusals::is_tolerance(n, f) {
-        return refusals::TOLERANCE;
-    }
-    if !refusals::is_shards(d, d) {
-        return refusals::SHARDS;
-    }
-    if !refusals::is_quorum(n, majority) {
-        return refusals::QUORUM;
-    }
-    if d % majority != 0 {
-        return refusals::MULTIPLE;
-    }
-    if !refusals::is_mask(n, alive) {
-        return refusals::MASK;
-    }
-    0
+    unless(refusals::is_population(n), Refusal::Population)?;
+    unless(refusals::is_tolerance(n, f), Refusal::Tolerance)?;
+    unless(refusals::is_shards(d, d), Refusal::Shards)?;
+    unless(refusals::is_quorum(n, majority), Refusal::Quorum)?;
+    unless(d % majority == 0, Refusal::Multiple)?;
+    unless(refusals::is_mask(n, alive), Refusal::Mask)
 }
 
-fn policy_refusal(
+// Kept as it is: the C interface passes the parameters one by one, and none of them has been tested yet.
+#[tactic(auto, unfolding(crate::specs::Policy::policy_refusal))]
+fn check_policy(
     n: usize,
     f: usize,
     own: ReplicaId,
@@ -170,139 +192,70 @@ fn policy_refusal(
     alive: u64,
     initial: &[u64],
     table: &[u64],
-) -> u8
-    ensures { result ≡ policy_refusal n f own.0 d w majority size inflight.now models.now alive initial.now table.now }
+) -> Result<(), Refusal>
+    ensures { refusal_of result ≡ policy_refusal n f own.0 d w majority size inflight.now models.now alive initial.now table.now }
 {
-    if !refusals::is_population(n) {
-        return refusals::POPULATION;
-    }
-    if !refusals::is_tolerance(n, f) {
-        return refusals::TOLERANCE;
-    }
-    if !refusals::is_replica(n, own) {
-        return refusals::REPLICA;
-    }
-    if !refusals::is_shards(d, w) {
-        return refusals::SHARDS;
-    }
-    if !refusals::is_quorum(n, majority) {
-        return refusals::QUORUM;
-    }
-    if d % majority != 0 {
-        return refusals::MULTIPLE;
-    }
-    if !refusals::is_size(size) {
-        return refusals::BYTES;
-    }
-    if !peers_fit(n, own, inflight) {
-        return refusals::BYTES;
-    }
-    if !refusals::is_mask(n, alive) {
-        return refusals::MASK;
-    }
-    if !refusals::are_rows(w, initial) {
-        return refusals::MASK;
-    }
-    if !refusals::are_rows(w, table) {
-        return refusals::MASK;
-    }
-    if inflight.len() != n {
-        return refusals::TABLE;
-    }
-    if models.len() != n * 3 {
-        return refusals::TABLE;
-    }
-    if !refusals::is_table(n, initial.len()) {
-        return refusals::TABLE;
-    }
-    if !is_balanced_table(n, d, majority, table.len()) {
-        return refusals::TABLE;
-    }
-    0
-}
-
-// Whether the bytes in flight to each peer are within bounds. A part: the population has been tested.
-fn peers_fit(n: usize, own: ReplicaId, inflight: &[u64]) -> bool
-    requires { n ≤ 16 }
-    ensures { result ≡ peers_fit n own.0 (in_flight inflight.now) }
-{
-    let mut p = 0;
-    while p < n {
-        if refusals::is_overfull(own, ReplicaId(p), bitmap::word_at(inflight, p)) {
-            return false;
-        } else {
-            p += 1;
-        }
-    }
-    true
+    unless(refusals::is_population(n), Refusal::Population)?;
+    unless(refusals::is_tolerance(n, f), Refusal::Tolerance)?;
+    unless(refusals::is_replica(n, own), Refusal::Replica)?;
+    unless(refusals::is_shards(d, w), Refusal::Shards)?;
+    unless(refusals::is_quorum(n, majority), Refusal::Quorum)?;
+    unless(d % majority == 0, Refusal::Multiple)?;
+    unless(refusals::is_size(size), Refusal::Bytes)?;
+    unless(
+        refusals::peers_fit(n, own, |p| bitmap::word_at(inflight, p)),
+        Refusal::Bytes,
+    )?;
+    unless(refusals::is_mask(n, alive), Refusal::Mask)?;
+    unless(refusals::are_rows(w, initial), Refusal::Mask)?;
+    unless(refusals::are_rows(w, table), Refusal::Mask)?;
+    unless(inflight.len() == n, Refusal::Table)?;
+    unless(models.len() == n * 3, Refusal::Table)?;
+    unless(refusals::is_table(n, initial.len()), Refusal::Table)?;
+    unless(
+        is_balanced_table(n, d, majority, table.len()),
+        Refusal::Table,
+    )
 }
 
 // Whether a balanced table has that many words: those of n rows for each count, or none. A part: the numbers have been tested.
 fn is_balanced_table(n: usize, d: usize, majority: usize, len: usize) -> bool
-    requires { (n ≤ 16) × (d ≤ most_shards) × (0 < majority) }
+    requires few_replicas { n ≤ 16 }
+    requires few_shards { d ≤ most_shards }
+    requires some_majority { 0 < majority }
     ensures { result ≡ is_balanced_table n d majority len }
 {
-    if len == 0 {
-        return true;
-    }
-    refusals::is_table(n * (d - d / majority + 1), len)
+    len == 0 || refusals::is_table(n * (d - d / majority + 1), len)
 }
 
-// Whether a balanced table of that many words has the count. A part: the majority has been tested.
-fn has_count(d: usize, majority: usize, len: usize, shards: usize) -> bool
-    requires { 0 < majority }
-    ensures { result ≡ has_count d majority len shards }
+// Whether a balanced table of that many words has the count.
+fn has_count(scheme: Scheme, len: usize, shards: usize) -> bool
+    ensures { result ≡ has_count scheme.data_shards scheme.majority len shards }
 {
-    if len == 0 {
-        return false;
-    }
-    if shards < d / majority {
-        return false;
-    }
-    shards <= d
+    len != 0 && scheme.share() <= shards && shards <= scheme.data_shards
 }
 
-fn larger(a: usize, b: usize) -> usize
-    ensures { result ≡ max a b }
+// The fewest shards a replica: with many replicas alive any assignment works, with too few full copies are the most careful.
+#[tactic(auto, unfolding(crate::specs::Floor::floor_of))]
+fn floor_of(scheme: Scheme, alive: usize) -> usize
+    ensures { result ≡ floor_of scheme.tolerance scheme.data_shards scheme.majority alive }
 {
-    if a <= b { b } else { a }
+    let most = scheme.majority + scheme.tolerance + 1;
+    (most.saturating_sub(alive) * scheme.share()).min(scheme.data_shards)
 }
 
-// The fewest shards a replica: with many replicas alive any assignment works, with too few full copies are the most careful. A part: the
-// numbers have been tested.
-fn floor_of(f: usize, d: usize, majority: usize, alive: usize) -> usize
-    requires { (f ≤ 16) × (d ≤ most_shards) × (0 < majority) × (majority ≤ 16) }
-    ensures { result ≡ floor_of f d majority alive }
-{
-    let most = majority + f + 1;
-    if most <= alive {
-        return 0;
-    }
-    let shards = (most - alive) * (d / majority);
-    if shards <= d { shards } else { d }
-}
-
-// The shards a replica that the models favour; without adaptivity, those of the first row of the initial layout. A part: the numbers have
-// been tested.
-fn best_shards(
-    n: usize,
-    f: usize,
-    own: ReplicaId,
-    d: usize,
-    majority: usize,
-    size: u64,
-    inflight: &[u64],
-    models: &[f64],
-    initial: &[u64],
-    adaptive: bool,
-) -> usize
-    requires n_nonzero { (0 < n) × (n ≤ 16) × (f < n) × (d ≤ most_shards) × (0 < d) × (0 < majority) × (majority ≤ n) × (d % majority ≡ 0) × (size ≤ 2 ^ 30) × (length initial.now ≡ n * 4) }
-    requires inflight_len { (length inflight.now ≡ n) × (length models.now ≡ n * 3) × InFlight n own.0 (in_flight inflight.now) }
-    ensures { result ≡ best_shards n f own.0 d majority size inflight.now models.now initial.now adaptive }
+// The shards a replica that the models favour; without adaptivity, those of the first row of the initial layout. A part: the size has been
+// tested, and the peers are those of the scheme.
+#[tactic(auto, unfolding(crate::specs::Policy::best_shards))]
+fn best_shards(scheme: Scheme, peers: &Peers, size: u64, initial: &[u64], adaptive: bool) -> usize
+    requires a_word_each { length peers.now.inflight.now ≡ scheme.population }
+    requires small_size { size ≤ 2 ^ 30 }
+    requires a_row_each { length initial.now ≡ scheme.population * 4 }
+    ensures { result ≡ best_shards scheme.population scheme.tolerance peers.now.own.0 scheme.data_shards scheme.majority size peers.now.inflight.now peers.now.models.now initial.now adaptive }
 {
     if adaptive {
-        let i = steps::best_step(n, f, own, d, majority, size, inflight, models);
-        return (i + 1) * (d / majority);
+        (steps::best_step(scheme, peers, size) + 1) * scheme.share()
+    } else {
+        Row::read_row(initial, 0).count()
     }
-    rows::count(rows::row_in(initial, 0))
 }

@@ -4,98 +4,99 @@
 
 mod replay; // replay.rt: whether an entry answers a line as it says
 
+use std::alloc::{AllocError, Global};
 use std::fs::File;
-use std::io::{Read, Result};
+use std::io::Read;
 use std::rt::Files;
+use std::{fmt, io};
+use stored::Line;
 
-fn main(rt: HostRuntime) -> Result<()> {
-    file(&rt, replay::PROFILE, "profile")?;
-    file(&rt, replay::UNRELIABILITY, "unreliability")?;
-    file(&rt, replay::FAULTS, "faults")?;
-    file(&rt, replay::COVERS, "covers")?;
-    file(&rt, replay::SURVIVED, "survived")?;
-    file(&rt, replay::LAYOUT, "layout")?;
-    file(&rt, replay::COMMITS, "commits")?;
-    file(&rt, replay::PLAN, "plan")?;
-    file(&rt, replay::FULL, "full")?;
-    file(&rt, replay::FLOOR, "floor")?;
-    file(&rt, replay::POLICY, "policy")?;
-    file(&rt, replay::INIT, "init")?;
-    file(&rt, replay::BASE_INIT, "base_init")?;
-    file(&rt, replay::GOSSIP, "gossip")?;
-    file(&rt, replay::TALLY, "tally")?;
-    Ok(())
+// The most bytes of a block, and the most blocks of a file.
+const BLOCK: usize = 65536;
+
+const BLOCKS: usize = 100;
+
+fn main(rt: HostRuntime) -> io::Result<()> {
+    let alloc = rt.alloc();
+    file(&rt, alloc, "profile", replay::is_profile)?;
+    file(&rt, alloc, "unreliability", replay::is_unreliability)?;
+    file(&rt, alloc, "faults", replay::is_faults)?;
+    file(&rt, alloc, "covers", replay::is_covers)?;
+    file(&rt, alloc, "survived", replay::is_survived)?;
+    file(&rt, alloc, "layout", replay::is_layout)?;
+    file(&rt, alloc, "commits", replay::is_commits)?;
+    file(&rt, alloc, "plan", replay::is_plan)?;
+    file(&rt, alloc, "full", replay::is_full)?;
+    file(&rt, alloc, "floor", replay::is_floor)?;
+    file(&rt, alloc, "policy", replay::is_policy)?;
+    file(&rt, alloc, "init", replay::is_init)?;
+    file(&rt, alloc, "base_init", replay::is_base_init)?;
+    file(&rt, alloc, "gossip", replay::is_gossip)?;
+    file(&rt, alloc, "tally", replay::is_tally)
 }
 
-// What became of some lines, and whether more may follow.
+// What became of the lines of a file, which are counted from 1, without the empty ones that pad a block.
 #[derive(Clone, Copy)]
-struct Progress {
-    count: u64,
-    differs: bool,
-    more: bool,
+enum Outcome {
+    Equal(u64),
+    Differs(u64),
+    TooLong,
 }
 
-fn file(rt: &(impl Files + Alloc), entry: u8, name: &str) -> Result<()> {
-    io::write_all(1, name.as_bytes());
+impl fmt::Display for Outcome {
+    fn fmt<W: fmt::Write>(&self, f: &mut fmt::Formatter<W>) -> fmt::Result {
+        match *self {
+            Outcome::Equal(count) => write!(f, "{count} lines equal"),
+            Outcome::Differs(line) => write!(f, "line {line} differs"),
+            Outcome::TooLong => write!(f, "too long"),
+        }
+    }
+}
+
+// Replays a file by the function that says whether an entry answers a line as it says.
+fn file<F: Fn(Global, Line) -> Result<bool, AllocError>>(
+    rt: &(impl Files + Print),
+    alloc: Global,
+    name: &str,
+    is_answered: F,
+) -> io::Result<()>
+    requires { F.IsAlwaysCallable is_answered }
+{
+    print!(rt; "{name}")?;
     match File::open(rt, name) {
-        Err(_) => {
-            io::write_all(1, b": no such file\n");
-        }
+        Err(_) => println!(rt; ": no such file"),
         Ok(mut file) => {
-            report(blocks(rt, entry, &mut file)?);
+            let outcome = blocks(alloc, &mut file, is_answered)?;
+            println!(rt; ": {outcome}")
         }
     }
-    Ok(())
 }
 
-// The lines are counted from 1, without the empty ones that pad a block.
-fn report(r: Progress) {
-    if r.differs {
-        io::write_all(1, b": line ");
-        io::print_decimal(1, r.count);
-        io::write_all(1, b" differs\n");
-        return;
-    }
-    if r.more {
-        io::write_all(1, b": too long\n");
-        return;
-    }
-    io::write_all(1, b": ");
-    io::print_decimal(1, r.count);
-    io::write_all(1, b" lines equal\n");
-}
-
-// A file, block by block. A proved loop has to end: no file here has as many blocks.
-fn blocks(rt: &impl Alloc, entry: u8, file: &mut impl Read) -> Result<Progress> {
-    let mut turns: u64 = 100;
+// A file, block by block. No line crosses the end of a block.
+fn blocks<F: Fn(Global, Line) -> Result<bool, AllocError>>(
+    alloc: Global,
+    file: &mut impl Read,
+    is_answered: F,
+) -> io::Result<Outcome>
+    requires { F.IsAlwaysCallable is_answered }
+{
     let mut count: u64 = 0;
-    while turns > 0 {
-        turns -= 1;
-        let b = next_block(rt, entry, file)?;
-        count = std::num::wrapping_add_u64(count, b.count);
-        if b.differs || !b.more {
-            return Ok(Progress {
-                count: count,
-                differs: b.differs,
-                more: false,
-            });
+    for _ in 0..BLOCKS {
+        let mut block = Vec::new(alloc);
+        let read = file.take(BLOCK as u64).read_to_end(&mut block)?;
+        for line in block.split(|b| *b == b'\n') {
+            if line.is_empty() {
+                continue;
+            }
+            count = count.wrapping_add(1);
+            let numbers = stored::numbers(alloc, line)?;
+            if !is_answered(alloc, Line(&numbers))? {
+                return Ok(Outcome::Differs(count));
+            }
+        }
+        if read < BLOCK {
+            return Ok(Outcome::Equal(count));
         }
     }
-    Ok(Progress {
-        count: count,
-        differs: false,
-        more: true,
-    })
-}
-
-// A block of the file, in which no line crosses the end of one.
-fn next_block(rt: &impl Alloc, entry: u8, file: &mut impl Read) -> Result<Progress> {
-    let mut block = Vec::new(rt.alloc());
-    let n = file.take(65536).read_to_end(&mut block)?;
-    let r = replay::replay(entry, &block);
-    Ok(Progress {
-        count: r.count,
-        differs: r.differs,
-        more: n == 65536,
-    })
+    Ok(Outcome::TooLong)
 }

@@ -1,7 +1,7 @@
 -- Worked values, computed by the checker: plans and full copies as the Rust gives them, each refusal, and which of two comes first. Assumes nothing.
 use mathlib.Core.Path.{◌≡◌, refl}
 use mathlib.Core.List.{List, [], ◌∷◌, map}
-use mathlib.Core.Option.{Option, none, some}
+use Rattle.std.specs.Prelude.{Option, None, Some}
 use Prim.Native.Nat.{ℕ, ◌*◌}
 use lib.ListN.{length, replicate}
 use lib.Ieee.{binary64, add, mul, div, of_int, of_bits, to_bits, le}
@@ -60,11 +60,11 @@ Told = Outcome (Option (ℕ × ℕ × List ℕ))
 
 abbrev told : Outcome (Option Plan) → Told
 told (refused k) = refused k
-told (accepted none) = accepted none
-told (accepted (some p)) = accepted (some (to_bits binary64 p.time, p.width, p.rows))
+told (accepted None) = accepted None
+told (accepted (Some p)) = accepted (Some (to_bits binary64 p.time, p.width, p.rows))
 
 abbrev plan : ℕ → ℕ → List ℕ → Told
-plan time width rows = accepted (some (time, width, rows))
+plan time width rows = accepted (Some (time, width, rows))
 
 record Line : Type 0 where
   n : ℕ
@@ -89,11 +89,11 @@ sheet =
     -- the document: one of three may fail; nobody may; both peers silent
     line 3 0 2 2 (AtMost 3) 2097152 both 0 ones 3 (plan two 2 (3 ∷ 1 ∷ 2 ∷ []))
     ∷ line 3 0 2 2 (AtMost 3) 2097152 both 0 nobody 3 (plan one 2 (3 ∷ 0 ∷ 0 ∷ []))
-    ∷ line 3 0 2 2 (AtMost 3) 2097152 (silent ∷ silent ∷ silent ∷ []) 0 ones 3 (accepted none)
+    ∷ line 3 0 2 2 (AtMost 3) 2097152 (silent ∷ silent ∷ silent ∷ []) 0 ones 3 (accepted None)
     -- alone; a quorum of three, and of three with one silent
     ∷ line 1 0 1 2 (AtMost 3) 2097152 (silent ∷ []) 0 nobody 1 (plan 0 2 (3 ∷ []))
     ∷ line 3 0 3 2 (AtMost 3) 2097152 both 0 nobody 3 (plan one 2 (3 ∷ 0 ∷ 0 ∷ []))
-    ∷ line 3 0 3 2 (AtMost 3) 2097152 (silent ∷ usual ∷ silent ∷ []) 0 nobody 3 (accepted none)
+    ∷ line 3 0 3 2 (AtMost 3) 2097152 (silent ∷ usual ∷ silent ∷ []) 0 nobody 3 (accepted None)
     -- a candidate outside the run: falling times, of which the last is taken, where nobody but ourselves has to answer
     ∷ line 2 0 1 2 (AtMost 3) 2097152 (silent ∷ heard 0xbff0_0000_0000_0000 0 0 0 0 ∷ []) 0 nobody 2 (plan 0xc000_0000_0000_0000 2 (3 ∷ 0 ∷ []))
     -- the largest population and ceiling
@@ -107,14 +107,14 @@ sheet =
     -- a NaN slope; a delay of infinity, of -infinity
     ∷ line 3 0 2 2 (AtMost 3) 2097152 (silent ∷ heard no_number one 0 0 0 ∷ usual ∷ []) 0 ones 3 (plan three 2 (3 ∷ 0 ∷ 3 ∷ []))
     ∷ line 3 0 2 2 (AtMost 3) 2097152 (silent ∷ usual ∷ heard one infinity 0 0 0 ∷ []) 0 ones 3 (plan three 2 (3 ∷ 3 ∷ 0 ∷ []))
-    ∷ line 3 0 2 2 (AtMost 3) 2097152 (silent ∷ heard one 0xfff0_0000_0000_0000 0 0 0 ∷ heard one infinity 0 0 0 ∷ []) 0 ones 3 (accepted none)
+    ∷ line 3 0 2 2 (AtMost 3) 2097152 (silent ∷ heard one 0xfff0_0000_0000_0000 0 0 0 ∷ heard one infinity 0 0 0 ∷ []) 0 ones 3 (accepted None)
     -- times below 0
     ∷ line 3 0 2 2 (AtMost 3) 2097152 (silent ∷ heard one 0xc014_0000_0000_0000 0 0 0 ∷ heard one 0xc010_0000_0000_0000 0 0 0 ∷ []) 0 ones 3 (plan 0xc008_0000_0000_0000 2 (3 ∷ 3 ∷ 0 ∷ []))
     -- a falling slope: with two shards it is in time at 1, but with none only at 3, and so it does not answer before
     ∷ line 3 0 2 2 (AtMost 3) 2097152 (silent ∷ heard 0xbff0_0000_0000_0000 three 0 0 0 ∷ silent ∷ []) 0 nobody 3 (plan three 2 (3 ∷ 0 ∷ 0 ∷ []))
     -- its time with two shards is -infinity: the run ends at one
     ∷ line 3 0 2 2 (AtMost 3) 2097152 (silent ∷ heard 0xffef_ffff_ffff_ffff 0 0 0 0 ∷ heard 0xffef_ffff_ffff_ffff 0 0 0 0 ∷ []) 0 ones 3 (plan 0 2 (3 ∷ 1 ∷ 2 ∷ []))
-    ∷ line 3 0 2 2 (AtMost 3) 2097152 (silent ∷ heard 0xffef_ffff_ffff_ffff 0 0 0 0 ∷ silent ∷ []) 0 ones 3 (accepted none)
+    ∷ line 3 0 2 2 (AtMost 3) 2097152 (silent ∷ heard 0xffef_ffff_ffff_ffff 0 0 0 0 ∷ silent ∷ []) 0 ones 3 (accepted None)
     -- trimming: of peers with equal times the lower number first; a peer that is too slow; +0 before -0
     ∷ line 3 0 2 3 (AtMost 3) 2097152 (silent ∷ heard 0 one 0 0 0 ∷ heard 0 one 0 0 0 ∷ []) 0 ones 3 (plan one 3 (7 ∷ 1 ∷ 6 ∷ []))
     ∷ line 3 0 2 3 (AtMost 3) 2097152 (silent ∷ heard 0 one 0 0 0 ∷ heard 0 two 0 0 0 ∷ []) 0 ones 3 (plan one 3 (7 ∷ 7 ∷ 0 ∷ []))

@@ -6,7 +6,7 @@ use Rattle.std.proofs.Common.{sym, ◌∙◌, le_refl, lt_of_lt_of_le, arith, po
 use Rattle.std.specs.Prelude.{◌↔◌, Bool, false, cond, Float, length, get_or, replicate}
 use Rattle.std.proofs.Math.Bool.{true}
 use mathlib.Core.List.{List, [], Memᴰ}
-use Rattle.std.proofs.Math.Option.{Option, none, some}
+use Rattle.std.specs.Prelude.{Option, None, Some}
 use Prim.Native.Nat.{ℕ, zero, suc, ◌*◌, ◌^◌, ◌≤◌, ◌<◌}
 use Rattle.std.proofs.Math.Decide.{dec_lt}
 use Rattle.std.proofs.Math.ListN.{length-replicate, get_or-replicate, get_or-eq_default}
@@ -112,11 +112,11 @@ plan_is : (p q : Plan) → p.time ≡ q.time → p.width ≡ q.width → p.rows 
 plan_is p q t w r = λ i. record { time = t i; width = w i; rows = r i }
 
 -- what is laid out is a plan if it commits, and never none
-laid_plan : (b : Bool) (a p : Plan) → cond b (accepted (some a)) (refused TRIMMED) ≡ accepted (some p) → (b ≡ true) × (a ≡ p)
+laid_plan : (b : Bool) (a p : Plan) → cond b (accepted (Some a)) (refused TRIMMED) ≡ accepted (Some p) → (b ≡ true) × (a ≡ p)
 laid_plan true a p e = (refl, cc)
 laid_plan false a p e = let z : ◌≡◌ {A = ℕ} 0 1 = cc in absurd (omega arith)
 
-laid_some : (b : Bool) (a : Plan) → cond b (accepted (some a)) (refused TRIMMED) ≡ accepted none → ⊥
+laid_some : (b : Bool) (a : Plan) → cond b (accepted (Some a)) (refused TRIMMED) ≡ accepted None → ⊥
 laid_some true a e = let z : ◌≡◌ {A = ℕ} 0 1 = cc in omega arith
 laid_some false a e = let z : ◌≡◌ {A = ℕ} 0 1 = cc in omega arith
 
@@ -141,30 +141,30 @@ module _ (n own quorum d : ℕ) (total : TotalShards) (faults : List ℕ) (times
   holds_at t = layout_commits n quorum d total (answered_at own d times t n) faults (loads_for n own quorum d total faults times t)
 
   module _ (fit : AllOf Fits times) where
-    pub plan_of_means : (p : Plan) → (plan_of n own quorum d total faults times ≡ accepted (some p)) ↔ Planned p
+    pub plan_of_means : (p : Plan) → (plan_of n own quorum d total faults times ≡ accepted (Some p)) ↔ Planned p
     unfolding plan_of
     plan_of_means p = (go (first_time n own quorum d total faults times) refl, shown)
       where
-        go : (o : Option Float) → first_time n own quorum d total faults times ≡ o → plan_at n own quorum d total faults times o ≡ accepted (some p) → Planned p
-        go none q e = let z : ◌≡◌ {A = ℕ} 0 1 = cc in absurd (omega arith)
-        go (some t) q e =
+        go : (o : Option Float) → first_time n own quorum d total faults times ≡ o → plan_at n own quorum d total faults times o ≡ accepted (Some p) → Planned p
+        go None q e = let z : ◌≡◌ {A = ℕ} 0 1 = cc in absurd (omega arith)
+        go (Some t) q e =
             let r = laid_plan (holds_at t) (planned_at t) p e in
             subst Planned r.1 (record { first = (first_time_means n own quorum d total faults times fit t).0 q; commits = r.0; width = refl; rows = refl })
 
-        shown : Planned p → plan_at n own quorum d total faults times (first_time n own quorum d total faults times) ≡ accepted (some p)
+        shown : Planned p → plan_at n own quorum d total faults times (first_time n own quorum d total faults times) ≡ accepted (Some p)
         shown h =
             rw ((first_time_means n own quorum d total faults times fit p.time).1 h.first, h.commits)
-            (ap (λ (q : Plan). accepted (some q)) (plan_is (planned_at p.time) p refl (sym h.width) (sym h.rows)))
+            (ap (λ (q : Plan). accepted (Some q)) (plan_is (planned_at p.time) p refl (sym h.width) (sym h.rows)))
 
-  pub no_plan_of_means : (plan_of n own quorum d total faults times ≡ accepted none) ↔ NoneCommits
+  pub no_plan_of_means : (plan_of n own quorum d total faults times ≡ accepted None) ↔ NoneCommits
   unfolding plan_of
   no_plan_of_means =
       let m = no_time_means n own quorum d total faults times in
       (λ e. m.0 (go (first_time n own quorum d total faults times) refl e), λ h. ap (plan_at n own quorum d total faults times) (m.1 h))
     where
-      go : (o : Option Float) → first_time n own quorum d total faults times ≡ o → plan_at n own quorum d total faults times o ≡ accepted none → first_time n own quorum d total faults times ≡ none
-      go none q e = q
-      go (some t) q e = absurd (laid_some (holds_at t) (planned_at t) e)
+      go : (o : Option Float) → first_time n own quorum d total faults times ≡ o → plan_at n own quorum d total faults times o ≡ accepted None → first_time n own quorum d total faults times ≡ None
+      go None q e = q
+      go (Some t) q e = absurd (laid_some (holds_at t) (planned_at t) e)
 
 -- ---- its loads
 
@@ -192,25 +192,25 @@ module _ (n own quorum d : ℕ) (total : TotalShards) (size : ℕ) (peers : List
 
   -- the answer is the plan p exactly if nothing refuses and p is the plan of those times
   pub plan_means : (p : Plan)
-      → (pick_of n own quorum d total size peers penalty faults rows ≡ accepted (some p))
+      → (pick_of n own quorum d total size peers penalty faults rows ≡ accepted (Some p))
       ↔ ((pick_refusal n own quorum d total size peers faults rows ≡ 0) × Planned n own quorum d total faults times p)
   unfolding pick_of
   plan_means p =
-      let c = checked_means (pick_refusal n own quorum d total size peers faults rows) (plan_of n own quorum d total faults times) (some p) in
+      let c = checked_means (pick_refusal n own quorum d total size peers faults rows) (plan_of n own quorum d total faults times) (Some p) in
       let m = plan_of_means n own quorum d total faults times (times_fit n own d (shard_length size d) peers penalty) p in
       (λ e. ((c.0 e).0, m.0 (c.0 e).1), λ h. c.1 (h.0, m.1 h.1))
 
   -- it is none exactly if nothing refuses and no candidate commits
-  pub none_means : (pick_of n own quorum d total size peers penalty faults rows ≡ accepted none)
+  pub none_means : (pick_of n own quorum d total size peers penalty faults rows ≡ accepted None)
       ↔ ((pick_refusal n own quorum d total size peers faults rows ≡ 0) × NoneCommits n own quorum d total faults times)
   unfolding pick_of
   none_means =
-      let c = checked_means (pick_refusal n own quorum d total size peers faults rows) (plan_of n own quorum d total faults times) none in
+      let c = checked_means (pick_refusal n own quorum d total size peers faults rows) (plan_of n own quorum d total faults times) None in
       let m = no_plan_of_means n own quorum d total faults times in
       (λ e. ((c.0 e).0, m.0 (c.0 e).1), λ h. c.1 (h.0, m.1 h.1))
 
   -- of any plan
-  module _ (p : Plan) (e : pick_of n own quorum d total size peers penalty faults rows ≡ accepted (some p)) where
+  module _ (p : Plan) (e : pick_of n own quorum d total size peers penalty faults rows ≡ accepted (Some p)) where
     fit : Fit d (bound total)
     fit = ((pick_sound n own quorum d total size peers faults rows).0 ((plan_means p).0 e).0).shards
 
@@ -277,10 +277,10 @@ module _ (n own quorum d : ℕ) (total : TotalShards) (size : ℕ) (peers : List
 
 -- ---- the lent table at exit: the rows of the plan where there is one, four words a row, and else what it held
 module _ (o : Outcome (Option Plan)) (before : List ℕ) where
-  pub planned_rows : (p : Plan) → o ≡ accepted (some p) → planned o before ≡ spelled p.rows
+  pub planned_rows : (p : Plan) → o ≡ accepted (Some p) → planned o before ≡ spelled p.rows
   planned_rows p e = ap (λ (q : Outcome (Option Plan)). planned q before) e
 
-  pub planned_none : o ≡ accepted none → planned o before ≡ before
+  pub planned_none : o ≡ accepted None → planned o before ≡ before
   planned_none e = ap (λ (q : Outcome (Option Plan)). planned q before) e
 
   pub planned_refused : (k : ℕ) → o ≡ refused k → planned o before ≡ before

@@ -1,2 +1,3 @@
 -- Plans, and the full-copy fallback.
 pub mod Plans
+pub mod Planned

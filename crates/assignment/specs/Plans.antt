@@ -1,6 +1,6 @@
 -- Plans (`pick_assignment`) and full copies (`full_copies`). Assumes nothing.
 use Rattle.std.specs.Prelude.{cond, List, [], ◌∷◌, ◌++◌, ℕ, Float, length, get_or, replicate}
-use Rattle.std.proofs.Math.Option.{Option, none, some}
+use Rattle.std.specs.Prelude.{Option, None, Some}
 use Rattle.bitmap.specs.Mask.{run}
 use Rattle.rows.specs.Row.{rows_in, spelled}
 use Rattle.refusals.specs.Numbers.{POPULATION, REPLICA, SHARDS, QUORUM, BYTES, TABLE, TRIMMED}
@@ -15,8 +15,7 @@ use Rattle.times.specs.Times.{silent, shard_length, times_of}
 use Rattle.trimming.specs.Order.{trim_order}
 use Rattle.trimming.specs.Trimming.{trimmed}
 use Rattle.candidates.specs.Search.{answered_at, loads_at, first_time}
-use Rattle.assignment.specs.declared.Pick.{Pick}
-use Rattle.assignment.specs.declared.Pick.TheVariants.{Refused, NoPlan, Planned}
+use Rattle.assignment.specs.declared.Plan as Coded
 
 -- a plan: its time, its width, and a row for each replica
 pub record Plan : Type 0 where
@@ -28,7 +27,7 @@ pub record Plan : Type 0 where
 abbrev pub laid_out : ℕ → ℕ → ℕ → TotalShards → List ℕ → ℕ → Float → List ℕ → Outcome (Option Plan)
 laid_out n quorum d total faults answered t loads =
     cond (layout_commits n quorum d total answered faults loads)
-    (accepted (some (record { time = t; width = width_of d total loads; rows = rows_of d total loads })))
+    (accepted (Some (record { time = t; width = width_of d total loads; rows = rows_of d total loads })))
     (refused TRIMMED)
 
 -- ---- the plan of a table of times
@@ -38,8 +37,8 @@ module _ (n own quorum d : ℕ) (total : TotalShards) (faults : List ℕ) (times
   loads_for t = trimmed (layout_commits n quorum d total (answered_at own d times t n) faults) (trim_order n own d times) (loads_at own d times t n)
 
   abbrev pub plan_at : Option Float → Outcome (Option Plan)
-  plan_at none = accepted none
-  plan_at (some t) = laid_out n quorum d total faults (answered_at own d times t n) t (loads_for t)
+  plan_at None = accepted None
+  plan_at (Some t) = laid_out n quorum d total faults (answered_at own d times t n) t (loads_for t)
 
   unfoldable pub plan_of : Outcome (Option Plan)
   plan_of = plan_at (first_time n own quorum d total faults times)
@@ -71,11 +70,10 @@ pick_cases n own quorum d total size peers faults rows = pick_input_cases n own 
 unfoldable pub pick_refusal : ℕ → ℕ → ℕ → ℕ → TotalShards → ℕ → List PeerRecord → List ℕ → ℕ → ℕ
 pick_refusal n own quorum d total size peers faults rows = first_of (pick_cases n own quorum d total size peers faults rows)
 
--- what an answer is, with the rows of the lent table: the number that refuses, no plan, or a plan
-abbrev pub picked : Pick → List ℕ → Outcome (Option Plan)
-picked (Refused k) rows = refused k
-picked NoPlan rows = accepted none
-picked (Planned t w) rows = accepted (some (record { time = t; width = w; rows = rows_in rows }))
+-- what an answer is, with the rows of the lent table: no plan, or a plan
+abbrev pub picked : List ℕ → Option Coded.Plan → Option Plan
+picked rows None = None
+picked rows (Some p) = Some (record { time = p.time; width = p.width; rows = rows_in rows })
 
 unfoldable pub pick_of : ℕ → ℕ → ℕ → ℕ → TotalShards → ℕ → List PeerRecord → Float → List ℕ → ℕ → Outcome (Option Plan)
 pick_of n own quorum d total size peers penalty faults rows =
@@ -85,8 +83,8 @@ pick_of n own quorum d total size peers penalty faults rows =
 -- the table at exit: a plan's rows, and else what it held
 abbrev pub planned : Outcome (Option Plan) → List ℕ → List ℕ
 planned (refused k) before = before
-planned (accepted none) before = before
-planned (accepted (some p)) before = spelled p.rows
+planned (accepted None) before = before
+planned (accepted (Some p)) before = spelled p.rows
 
 -- ---- full copies
 

@@ -1,18 +1,19 @@
 // Plans: the assignment predicted to commit the soonest (pick_assignment), and full copies where there is none.
 #![tactic(auto)]
 
-ghost use Rattle.std.specs.Prelude.{◌≡◌, suc, ◌+◌, ◌*◌, ◌<◌, ◌≤◌, length};
-ghost use Rattle.std.proofs.Math.Option.{some};
-ghost use Rattle.refusals.specs.Limits.{peers_fit};
-ghost use Rattle.layout.specs.Layout.{Fit, bound, laid};
+ghost use Rattle.std.specs.Prelude.{◌≡◌, suc, ◌*◌, ◌^◌, ◌≤◌, length, Some};
+ghost use Rattle.refusals.specs.Refused.{refusal_of, outcome_of, outcome_by};
+ghost use Rattle.times.specs.Times.{PeersInBounds, shard_length, times_of};
 ghost use Rattle.candidates.specs.Search.{answered_at};
-ghost use Rattle.assignment.specs.Plans.{loads_for, laid_out, plan_at, plan_of, in_flight, pick_refusal, picked, pick_of, planned, copies_refusal, copies_width, full_copies_of, copies_written};
+ghost use Rattle.assignment.specs.Plans.{pick_refusal, picked, pick_of, planned, copies_refusal, copies_width, full_copies_of, copies_written};
+ghost use Rattle.assignment.specs.Planned.{rule_plan, rule_laid_out, search_plan, search_plan_at, search_loads};
 
 use bitmap::ReplicaId;
-use floats::Found;
-use layout::{Laid, TotalShards};
-use rows::ShardId;
-use times::PeerRecord;
+use candidates::Search;
+use layout::{CommitRule, TotalShards};
+use refusals::{Refusal, unless};
+use rows::{Row, ShardId, ShardSet};
+use times::{PeerRecord, TimeTable};
 
 // So many data shards have a table of times of their own, so that a small plan does not clear the large one.
 const NARROW: usize = 64;
@@ -23,12 +24,11 @@ const NARROW_TIMES: usize = 1040;
 // At the loads 0 to the most shards.
 const MOST_TIMES: usize = 4096;
 
-// No plan is an answer of its own. A plan's rows are in the lent table.
+// A plan: the predicted time, and the width of its rows, which are in the lent table.
 #[derive(Clone, Copy)]
-pub enum Pick {
-    Refused(u8),
-    NoPlan,
-    Planned { time: f64, width: usize },
+pub struct Plan {
+    pub time: f64,
+    pub width: usize,
 }
 
 // Picks the assignment predicted to commit the soonest for a value of `size` bytes under d data shards and the total. Commits need replies
@@ -44,35 +44,43 @@ pub fn pick_assignment(
     penalty: f64,
     faults: &[u64],
     rows: &mut [u64],
-) -> Pick
-    ensures answer { picked result rows.new ≡ pick_of n own.0 quorum d total size peers penalty faults.now (length rows.old) }
+) -> Result<Option<Plan>, Refusal>
+    ensures answer { outcome_by (picked rows.new) result ≡ pick_of n own.0 quorum d total size peers penalty faults.now (length rows.old) }
     ensures words { rows.new ≡ planned (pick_of n own.0 quorum d total size peers penalty faults.now (length rows.old)) rows.old }
 {
-    let no = pick_refusal(n, own, quorum, d, total, size, peers, faults, rows.len());
-    if no != 0 {
-        return Pick::Refused(no);
-    }
+    check_pick(n, own, quorum, d, total, size, peers, faults, rows.len())?;
+    let rule = CommitRule {
+        population: n,
+        quorum,
+        data_shards: d,
+        total,
+        faults,
+    };
     if d <= NARROW {
-        return pick_narrow(n, own, quorum, d, total, size, peers, penalty, faults, rows);
+        return pick_with_room::<NARROW_TIMES>(&rule, own, size, peers, penalty, rows);
     }
-    pick_wide(n, own, quorum, d, total, size, peers, penalty, faults, rows)
+    pick_with_room::<MOST_TIMES>(&rule, own, size, peers, penalty, rows)
 }
 
 // Full copies for everyone: the width d under a ceiling, else the exact one.
-pub fn full_copies(n: usize, d: usize, total: TotalShards, rows: &mut [u64]) -> Laid
-    ensures answer { laid result ≡ full_copies_of n d total (length rows.old) }
+#[tactic(auto, using(refusals::proofs::Entered::entered), unfolding(crate::specs::Plans::full_copies_of, crate::specs::Plans::copies_written))]
+pub fn full_copies(
+    n: usize,
+    d: usize,
+    total: TotalShards,
+    rows: &mut [u64],
+) -> Result<usize, Refusal>
+    ensures answer { outcome_of result ≡ full_copies_of n d total (length rows.old) }
     ensures words { rows.new ≡ copies_written n d total rows.old }
 {
-    let no = copies_refusal(n, d, total, rows.len());
-    if no != 0 {
-        return Laid::Refused(no);
-    }
-    rows::fill(rows::run(ShardId(0), d), n, rows);
-    Laid::Width(copies_width(d, total))
+    check_copies(n, d, total, rows.len())?;
+    Row::run(ShardId(0), d).fill(n, rows);
+    Ok(copies_width(d, total))
 }
 
-// The number that refuses a plan, or 0.
-pub fn pick_refusal(
+// Refuses what a plan can't be picked from.
+#[tactic(auto, unfolding(crate::specs::Plans::pick_refusal))]
+pub fn check_pick(
     n: usize,
     own: ReplicaId,
     quorum: usize,
@@ -82,66 +90,29 @@ pub fn pick_refusal(
     peers: [PeerRecord; 16],
     faults: &[u64],
     rows: usize,
-) -> u8
-    ensures { result ≡ pick_refusal n own.0 quorum d total size peers faults.now rows }
+) -> Result<(), Refusal>
+    ensures { refusal_of result ≡ pick_refusal n own.0 quorum d total size peers faults.now rows }
 {
-    if !refusals::is_population(n) {
-        return refusals::POPULATION;
-    }
-    if !refusals::is_replica(n, own) {
-        return refusals::REPLICA;
-    }
-    if !refusals::is_shards(d, layout::bound(total)) {
-        return refusals::SHARDS;
-    }
-    if !refusals::is_quorum(n, quorum) {
-        return refusals::QUORUM;
-    }
-    if !refusals::is_size(size) {
-        return refusals::BYTES;
-    }
-    if !peers_fit(n, own, peers) {
-        return refusals::BYTES;
-    }
-    if !refusals::is_fault_list(n, faults) {
-        return refusals::TABLE;
-    }
-    if !refusals::is_table(n, rows) {
-        return refusals::TABLE;
-    }
-    0
+    unless(refusals::is_population(n), Refusal::Population)?;
+    unless(refusals::is_replica(n, own), Refusal::Replica)?;
+    unless(refusals::is_shards(d, total.bound()), Refusal::Shards)?;
+    unless(refusals::is_quorum(n, quorum), Refusal::Quorum)?;
+    unless(refusals::is_size(size), Refusal::Bytes)?;
+    unless(
+        refusals::peers_fit(n, own, |p| peers[p].inflight),
+        Refusal::Bytes,
+    )?;
+    unless(refusals::is_fault_list(n, faults), Refusal::Table)?;
+    unless(refusals::is_table(n, rows), Refusal::Table)
 }
 
-// Whether the bytes in flight to each peer are within bounds. A part: the population has been tested.
-fn peers_fit(n: usize, own: ReplicaId, peers: [PeerRecord; 16]) -> bool
-    requires { n ≤ 16 }
-    ensures { result ≡ peers_fit n own.0 (in_flight peers) }
+#[tactic(auto, unfolding(crate::specs::Plans::copies_refusal))]
+fn check_copies(n: usize, d: usize, total: TotalShards, rows: usize) -> Result<(), Refusal>
+    ensures { refusal_of result ≡ copies_refusal n d total rows }
 {
-    let mut p = 0;
-    while p < n {
-        let told = peers[p];
-        if refusals::is_overfull(own, ReplicaId(p), told.inflight) {
-            return false;
-        } else {
-            p += 1;
-        }
-    }
-    true
-}
-
-fn copies_refusal(n: usize, d: usize, total: TotalShards, rows: usize) -> u8
-    ensures { result ≡ copies_refusal n d total rows }
-{
-    if !refusals::is_population(n) {
-        return refusals::POPULATION;
-    }
-    if !refusals::is_shards(d, layout::bound(total)) {
-        return refusals::SHARDS;
-    }
-    if !refusals::is_table(n, rows) {
-        return refusals::TABLE;
-    }
-    0
+    unless(refusals::is_population(n), Refusal::Population)?;
+    unless(refusals::is_shards(d, total.bound()), Refusal::Shards)?;
+    unless(refusals::is_table(n, rows), Refusal::Table)
 }
 
 fn copies_width(d: usize, total: TotalShards) -> usize
@@ -153,198 +124,95 @@ fn copies_width(d: usize, total: TotalShards) -> usize
     }
 }
 
-// The plan by a table of times for at most NARROW data shards. A part: nothing refuses it.
-fn pick_narrow(
-    n: usize,
+// The plan, by a table with room for so many times. A part: the size, the bytes in flight to the peers and the lent table have been tested.
+#[inline(never)]
+fn pick_with_room<const TIMES: usize>(
+    rule: &CommitRule,
     own: ReplicaId,
-    quorum: usize,
-    d: usize,
-    total: TotalShards,
     size: u64,
     peers: [PeerRecord; 16],
     penalty: f64,
-    faults: &[u64],
     rows: &mut [u64],
-) -> Pick
-    requires { (pick_refusal n own.0 quorum d total size peers faults.now (length rows.old) ≡ 0) × (d ≤ 64) }
-    ensures answer { picked result rows.new ≡ pick_of n own.0 quorum d total size peers penalty faults.now (length rows.old) }
-    ensures words { rows.new ≡ planned (pick_of n own.0 quorum d total size peers penalty faults.now (length rows.old)) rows.old }
+) -> Result<Option<Plan>, Refusal>
+    requires room { rule.now.population * suc rule.now.data_shards ≤ TIMES }
+    requires few { TIMES ≤ 4096 }
+    requires size { size ≤ 2 ^ 30 }
+    requires in_bounds { PeersInBounds rule.now.population own.0 peers }
+    requires table { length rows.old ≡ rule.now.population * 4 }
+    ensures answer { outcome_by (picked rows.new) result ≡ rule_plan rule.now own.0 (times_of rule.now.population own.0 rule.now.data_shards (shard_length size rule.now.data_shards) peers penalty) }
+    ensures words { rows.new ≡ planned (rule_plan rule.now own.0 (times_of rule.now.population own.0 rule.now.data_shards (shard_length size rule.now.data_shards) peers penalty)) rows.old }
 {
-    let mut table = [0.0f64; NARROW_TIMES];
-    let m = n * (d + 1);
-    pick_in(
-        n,
-        own,
-        quorum,
-        d,
-        total,
-        size,
-        peers,
-        penalty,
-        faults,
-        &mut table[..m],
-        rows,
-    )
-}
-
-// The plan by a table of times for the most shards. A part: nothing refuses it.
-fn pick_wide(
-    n: usize,
-    own: ReplicaId,
-    quorum: usize,
-    d: usize,
-    total: TotalShards,
-    size: u64,
-    peers: [PeerRecord; 16],
-    penalty: f64,
-    faults: &[u64],
-    rows: &mut [u64],
-) -> Pick
-    requires { pick_refusal n own.0 quorum d total size peers faults.now (length rows.old) ≡ 0 }
-    ensures answer { picked result rows.new ≡ pick_of n own.0 quorum d total size peers penalty faults.now (length rows.old) }
-    ensures words { rows.new ≡ planned (pick_of n own.0 quorum d total size peers penalty faults.now (length rows.old)) rows.old }
-{
-    let mut table = [0.0f64; MOST_TIMES];
-    let m = n * (d + 1);
-    pick_in(
-        n,
-        own,
-        quorum,
-        d,
-        total,
-        size,
-        peers,
-        penalty,
-        faults,
-        &mut table[..m],
-        rows,
-    )
-}
-
-// The plan, its times worked out in the table. A part: nothing refuses it, and the table is that of n replicas.
-fn pick_in(
-    n: usize,
-    own: ReplicaId,
-    quorum: usize,
-    d: usize,
-    total: TotalShards,
-    size: u64,
-    peers: [PeerRecord; 16],
-    penalty: f64,
-    faults: &[u64],
-    table: &mut [f64],
-    rows: &mut [u64],
-) -> Pick
-    requires { (pick_refusal n own.0 quorum d total size peers faults.now (length rows.old) ≡ 0) × (length table.old ≡ n * suc d) }
-    ensures answer { picked result rows.new ≡ pick_of n own.0 quorum d total size peers penalty faults.now (length rows.old) }
-    ensures words { rows.new ≡ planned (pick_of n own.0 quorum d total size peers penalty faults.now (length rows.old)) rows.old }
-{
+    let mut room = [0.0f64; TIMES];
+    let times = &mut room[..rule.population * (rule.data_shards + 1)];
     times::fill_times(
-        n,
+        rule.population,
         own,
-        d,
-        times::shard_length(size, d),
+        rule.data_shards,
+        times::shard_length(size, rule.data_shards),
         peers,
         penalty,
-        table,
+        times,
     );
-    plan(n, own, quorum, d, total, faults, table, rows)
+    let times = TimeTable {
+        population: rule.population,
+        own,
+        data_shards: rule.data_shards,
+        times,
+    };
+    let rule = *rule;
+    plan_from(&Search { rule, times }, rows)
 }
 
-// The plan of a table of times. A part: the numbers have been tested, and the table is that of n replicas.
-fn plan(
-    n: usize,
-    own: ReplicaId,
-    quorum: usize,
-    d: usize,
-    total: TotalShards,
-    faults: &[u64],
-    times: &[f64],
-    rows: &mut [u64],
-) -> Pick
-    requires { Fit d (bound total) × (n ≤ 16) × (length times.now ≡ n * suc d) × (length rows.old ≡ n * 4) }
-    ensures answer { picked result rows.new ≡ plan_of n own.0 quorum d total faults.now times.now }
-    ensures words { rows.new ≡ planned (plan_of n own.0 quorum d total faults.now times.now) rows.old }
+// The plan that a search finds. A part: the lent table is one of the population.
+fn plan_from(search: &Search, rows: &mut [u64]) -> Result<Option<Plan>, Refusal>
+    requires { length rows.old ≡ search.now.rule.population * 4 }
+    ensures answer { outcome_by (picked rows.new) result ≡ search_plan search.now }
+    ensures words { rows.new ≡ planned (search_plan search.now) rows.old }
 {
-    match candidates::first_time(n, own, quorum, d, total, faults, times) {
-        Found::Nothing => Pick::NoPlan,
-        Found::At(t) => plan_at(n, own, quorum, d, total, faults, times, t, rows),
+    match search.first_time() {
+        None => Ok(None),
+        Some(t) => plan_at(search, t, rows),
     }
 }
 
 // The plan at a time: its loads, trimmed, laid out and tested once more.
-fn plan_at(
-    n: usize,
-    own: ReplicaId,
-    quorum: usize,
-    d: usize,
-    total: TotalShards,
-    faults: &[u64],
-    times: &[f64],
-    t: f64,
-    rows: &mut [u64],
-) -> Pick
-    requires { Fit d (bound total) × (n ≤ 16) × (length times.now ≡ n * suc d) × (length rows.old ≡ n * 4) }
-    ensures answer { picked result rows.new ≡ plan_at n own.0 quorum d total faults.now times.now (some t) }
-    ensures words { rows.new ≡ planned (plan_at n own.0 quorum d total faults.now times.now (some t)) rows.old }
+fn plan_at(search: &Search, t: f64, rows: &mut [u64]) -> Result<Option<Plan>, Refusal>
+    requires { length rows.old ≡ search.now.rule.population * 4 }
+    ensures answer { outcome_by (picked rows.new) result ≡ search_plan_at search.now (Some t) }
+    ensures words { rows.new ≡ planned (search_plan_at search.now (Some t)) rows.old }
 {
     let mut loads = [0usize; 16];
-    let answered = loads_for(n, own, quorum, d, total, faults, times, t, &mut loads[..n]);
-    lay_out(n, quorum, d, total, answered, faults, t, &loads[..n], rows)
+    let loads = &mut loads[..search.rule.population];
+    let answered = loads_for(search, t, loads);
+    lay_out(&search.rule, answered, t, loads, rows)
 }
 
 // The loads at a time, trimmed, and the mask of those that answer.
-fn loads_for(
-    n: usize,
-    own: ReplicaId,
-    quorum: usize,
-    d: usize,
-    total: TotalShards,
-    faults: &[u64],
-    times: &[f64],
-    t: f64,
-    loads: &mut [usize],
-) -> u64
-    requires { Fit d (bound total) × (n ≤ 16) × (length times.now ≡ n * suc d) × (length loads.old ≡ n) }
-    ensures mask { result ≡ answered_at own.0 d times.now t n }
-    ensures loads { loads.new ≡ loads_for n own.0 quorum d total faults.now times.now t }
+fn loads_for(search: &Search, t: f64, loads: &mut [usize]) -> u64
+    requires { length loads.old ≡ search.now.rule.population }
+    ensures mask { result ≡ answered_at search.now.times.own.0 search.now.rule.data_shards search.now.times.times.now t search.now.rule.population }
+    ensures loads { loads.new ≡ search_loads search.now t }
 {
-    let answered = candidates::loads_at(n, own, d, times, t, loads);
-    let order = trimming::trim_order(n, own, d, times);
-    let peers = order.peers;
-    trimming::trim(
-        n,
-        quorum,
-        d,
-        total,
-        answered,
-        faults,
-        peers,
-        order.count,
-        loads,
-    );
+    let answered = candidates::loads_at(&search.times, t, loads);
+    let mut room = [ReplicaId(0); 16];
+    let order = trimming::trim_order(&search.times, &mut room);
+    trimming::trim(&search.rule, answered, order, loads);
     answered
 }
 
 // What trimmed loads come to.
 fn lay_out(
-    n: usize,
-    quorum: usize,
-    d: usize,
-    total: TotalShards,
+    rule: &CommitRule,
     answered: u64,
-    faults: &[u64],
     t: f64,
     loads: &[usize],
     rows: &mut [u64],
-) -> Pick
-    requires { Fit d (bound total) × (n ≤ 16) × (length loads.now ≡ n) × (length rows.old ≡ n * 4) }
-    ensures answer { picked result rows.new ≡ laid_out n quorum d total faults.now answered t loads.now }
-    ensures words { rows.new ≡ planned (laid_out n quorum d total faults.now answered t loads.now) rows.old }
+) -> Result<Option<Plan>, Refusal>
+    requires { (length loads.now ≡ rule.now.population) × (length rows.old ≡ rule.now.population * 4) }
+    ensures answer { outcome_by (picked rows.new) result ≡ rule_laid_out rule.now answered t loads.now }
+    ensures words { rows.new ≡ planned (rule_laid_out rule.now answered t loads.now) rows.old }
 {
-    if !layout::commits(n, quorum, d, total, answered, faults, loads) {
-        return Pick::Refused(refusals::TRIMMED);
-    }
-    let width = layout::lay(d, total, loads, rows);
-    Pick::Planned { time: t, width }
+    unless(rule.commits(answered, loads), Refusal::Trimmed)?;
+    let width = layout::lay(rule.data_shards, rule.total, loads, rows);
+    Ok(Some(Plan { time: t, width }))
 }

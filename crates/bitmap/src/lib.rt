@@ -1,12 +1,12 @@
 // Sets of replicas as masks of 64 bits: bit s is the replica s. A word of a row of shards is such a mask too.
 #![tactic(auto)]
 
-ghost use Rattle.std.specs.Prelude.{◌≡◌, ◌+◌, ◌<◌, ◌≤◌, length, get_or, take, replicate};
+ghost use Rattle.std.specs.Prelude.{◌≡◌, ◌+◌, ◌<◌, ◌≤◌, length, get_or, take};
 ghost use Rattle.std.specs.Int.Bits.{bit_or};
 ghost use Rattle.bitmap.specs.Mask.{has_bit, with_bit, is_below, count, run, run_modulo};
 
 // The number of a replica. It is wide, so that a number out of range is refused and not cut.
-#[derive(Clone, Copy)]
+#[derive(Clone, Copy, Debug, PartialEq, Eq)]
 pub struct ReplicaId(pub usize);
 
 // Whether the replica s is in the mask.
@@ -71,25 +71,11 @@ pub fn run_modulo(a: usize, k: usize, w: usize) -> u64
     run(from, w - from) | run(0, from + k - w)
 }
 
-// Makes each word of the table the same.
-pub fn fill(row: u64, rows: &mut [u64])
-    ensures { rows.new ≡ replicate (length rows.old) row }
-{
-    let mut s = 0;
-    while s < rows.len() {
-        rows[s] = row;
-        s += 1;
-    }
-}
-
 // The word at i; what the table lacks is 0.
 pub fn word_at(words: &[u64], i: usize) -> u64
     ensures { result ≡ get_or words.now i 0 }
 {
-    if i < words.len() {
-        return words[i];
-    }
-    0
+    words.get(i).copied().unwrap_or(0)
 }
 
 // The first words of a table, copied. A part: it has as many.
@@ -97,11 +83,7 @@ pub fn copy(from: &[u64], to: &mut [u64])
     requires { length to.old ≤ length from.now }
     ensures { to.new ≡ take (length to.old) from.now }
 {
-    let mut i = 0;
-    while i < to.len() {
-        to[i] = from[i];
-        i += 1;
-    }
+    to.copy_from_slice(&from[..to.len()]);
 }
 
 // Whether s is a member of m, whatever its members number.

@@ -1,18 +1,18 @@
 -- What the structs of the C interface stand for. A refusal is its number, and beside it every other field is 0. Assumes nothing.
 use Rattle.std.specs.Prelude.{Bool, not, cond, List, ℕ, eqb, Float}
-use Rattle.std.proofs.Math.Option.{Option, none, some}
+use Rattle.std.specs.Prelude.{Option, None, Some}
 use Rattle.refusals.specs.Outcome.{Outcome, refused, accepted}
 use Rattle.floats.specs.Floats.{plus_zero}
 use Rattle.profiles.specs.declared.Profile.{Profile}
-use Rattle.profile_text.specs.declared.Parsed.{Parsed}
-use Rattle.profile_text.specs.declared.Reading.{Reading}
-use Rattle.profile_text.specs.declared.Reading.TheVariants.{Refused, Read}
+use Rattle.profile_text.specs.ProfileText.{nothing}
 use Rattle.layout.specs.declared.TotalShards.{TotalShards}
 use Rattle.layout.specs.declared.TotalShards.TheVariants.{Exactly, AtMost}
 use Rattle.assignment.specs.Plans.{Plan}
+use Rattle.tally.specs.declared.Proposal.{Proposal}
 use Rattle.tally.specs.declared.Tally.{Tally}
-use Rattle.tally.specs.declared.Opening.{Opening}
-use Rattle.tally.specs.Tally.{Said, waiting, committed, already_committed}
+use Rattle.tally.specs.declared.Status.{Status}
+use Rattle.tally.specs.declared.Status.TheVariants.{Waiting, Committed, AlreadyCommitted}
+use Rattle.tally.specs.Tally.{nothing as no_tally}
 use Rattle.c_types.specs.declared.Answer.{Answer}
 use Rattle.c_types.specs.declared.FloatAnswer.{FloatAnswer}
 use Rattle.c_types.specs.declared.Layout.{Layout}
@@ -67,8 +67,8 @@ unplanned_of k = record { refusal = k; found = 0; width = 0; time = plus_zero }
 
 abbrev pub to_plan : Outcome (Option Plan) → C-plan.Plan
 to_plan (refused k) = unplanned_of k
-to_plan (accepted none) = unplanned_of 0
-to_plan (accepted (some p)) = record { refusal = 0; found = 1; width = p.width; time = p.time }
+to_plan (accepted None) = unplanned_of 0
+to_plan (accepted (Some p)) = record { refusal = 0; found = 1; width = p.width; time = p.time }
 
 -- not from the table: refused, or with 0 the initial layout
 abbrev pub initial_of : ℕ → Choice
@@ -76,14 +76,14 @@ initial_of k = record { refusal = k; from_table = 0; count = 0 }
 
 abbrev pub to_choice : Outcome (Option ℕ) → Choice
 to_choice (refused k) = initial_of k
-to_choice (accepted none) = initial_of 0
-to_choice (accepted (some shards)) = record { refusal = 0; from_table = 1; count = shards }
+to_choice (accepted None) = initial_of 0
+to_choice (accepted (Some shards)) = record { refusal = 0; from_table = 1; count = shards }
 
-abbrev pub to_reply : Outcome Said → Reply
+abbrev pub to_reply : Outcome Status → Reply
 to_reply (refused k) = record { refusal = k; status = 0 }
-to_reply (accepted waiting) = record { refusal = 0; status = 0 }
-to_reply (accepted committed) = record { refusal = 0; status = 1 }
-to_reply (accepted already_committed) = record { refusal = 0; status = 2 }
+to_reply (accepted Waiting) = record { refusal = 0; status = 0 }
+to_reply (accepted Committed) = record { refusal = 0; status = 1 }
+to_reply (accepted AlreadyCommitted) = record { refusal = 0; status = 2 }
 
 -- ---- profiles
 
@@ -107,15 +107,15 @@ to_profile p = record {
   domains = p.domains;
 }
 
-abbrev pub number_of : Reading → ℕ
-number_of (Refused k) = k
-number_of Read = 0
-
--- the number, and the profile beside it
-unfoldable pub to_reading : Parsed → ProfileReading
-to_reading r = record { refusal = number_of r.answer; profile = to_profile r.profile }
+-- the number beside a profile of nothing, or the profile
+unfoldable pub to_reading : Outcome Profile → ProfileReading
+to_reading (refused k) = record { refusal = k; profile = to_profile nothing }
+to_reading (accepted p) = record { refusal = 0; profile = to_profile p }
 
 -- ---- tallies
+
+abbrev pub proposal_of : ℕ → ℕ → ℕ → Proposal
+proposal_of ballot high low = record { ballot = ballot; value_high = high; value_low = low }
 
 unfoldable pub from_tally : C-tally.Tally → Tally
 from_tally t = record {
@@ -123,9 +123,7 @@ from_tally t = record {
   quorum = t.quorum;
   data_shards = t.data_shards;
   width = t.width;
-  ballot = t.ballot;
-  value_high = t.value_high;
-  value_low = t.value_low;
+  proposal = proposal_of t.ballot t.value_high t.value_low;
   heard = t.heard;
   committed = is_set t.committed;
   rows = t.rows;
@@ -138,9 +136,9 @@ to_tally t flag = record {
   quorum = t.quorum;
   data_shards = t.data_shards;
   width = t.width;
-  ballot = t.ballot;
-  value_high = t.value_high;
-  value_low = t.value_low;
+  ballot = t.proposal.ballot;
+  value_high = t.proposal.value_high;
+  value_low = t.proposal.value_low;
   heard = t.heard;
   committed = flag;
   rows = t.rows;
@@ -150,6 +148,7 @@ to_tally t flag = record {
 unfoldable pub tally_left : C-tally.Tally → Tally → C-tally.Tally
 tally_left t u = to_tally u (cond (is_set t.committed) t.committed (word_of u.committed))
 
--- the number, and the tally beside it
-unfoldable pub to_opening : Opening → TallyOpening
-to_opening o = record { refusal = o.refusal; tally = to_tally o.tally (word_of o.tally.committed) }
+-- the number beside a tally of nothing, or the tally
+unfoldable pub to_opening : Outcome Tally → TallyOpening
+to_opening (refused k) = record { refusal = k; tally = to_tally no_tally 0 }
+to_opening (accepted t) = record { refusal = 0; tally = to_tally t (word_of t.committed) }

@@ -1,32 +1,19 @@
-// The structs that cross the C interface, and the values of the entries that they stand for. A flag is a number: 0 is false, anything else
-// true.
+// The structs that cross the C interface, and how the values of the entries become them (`From`). A flag is a number: 0 is false, anything
+// else true.
 #![tactic(auto)]
 
-ghost use Rattle.std.specs.Prelude.{◌≡◌, cond, [], ◌<◌};
-ghost use Rattle.refusals.specs.Outcome.{refused, accepted};
-ghost use Rattle.profiles.specs.Unreliability.{answer as estimate};
-ghost use Rattle.faults.specs.FaultList.{answer as listed};
-ghost use Rattle.coverage.specs.Coverage.{coverage, survival};
-ghost use Rattle.layout.specs.Layout.{laid, tested};
-ghost use Rattle.assignment.specs.Plans.{picked};
-ghost use Rattle.adaptive.specs.Floor.{floored};
-ghost use Rattle.adaptive.specs.Policy.{chosen};
-ghost use Rattle.layout_text.specs.LayoutText.{answer as init};
-ghost use Rattle.gossip.specs.Gossip.{gossiped};
-ghost use Rattle.tally.specs.Tally.{answer as told};
-ghost use Rattle.c_types.specs.CTypes.{word_of, is_set, to_total, to_answer, to_flag, to_done, to_float, to_layout, to_plan, unplanned_of, to_choice, initial_of, to_reply, to_profile, from_profile, number_of, to_reading, to_tally, from_tally, tally_left, to_opening};
-ghost use Rattle.c_types.specs.Tables.{float_at, peer_at, from_peers, is_records};
+ghost use Rattle.std.specs.Prelude.{◌≡◌, ℕ, ◌<◌, cond};
+ghost use Rattle.refusals.specs.Refused.{number_of};
+ghost use Rattle.profile_text.specs.ProfileText.{nothing};
+ghost use Rattle.tally.specs.Tally.{nothing as no_tally};
+ghost use Rattle.c_types.specs.CTypes.{word_of, is_set, to_total, unplanned_of, initial_of, tally_left, to_tally, to_profile};
+ghost use Rattle.c_types.specs.Tables.{peer_at, from_peers, is_records};
 
-use adaptive::{Floor, Policy};
-use assignment::Pick;
+use adaptive::Policy;
 use bitmap::ReplicaId;
-use coverage::{Coverage, Survival};
-use faults::Listed;
-use gossip::Gossip;
-use layout::{Laid, Tested, TotalShards};
-use layout_text::Init;
-use profile_text::{Parsed, Reading};
-use profiles::Estimate;
+use layout::{TotalShards, Trial};
+use refusals::Refusal;
+use tally::{Proposal, Status};
 use times::{Peer, PeerRecord};
 
 // The number that refuses, or 0; beside a number every other field is 0. So in each struct that answers.
@@ -69,6 +56,7 @@ pub struct Choice {
     pub count: usize,
 }
 
+// Kept as it is: the C interface needs a number for the flag and fixed memory with the counts beside it; `profiles::Profile` has a bool.
 #[repr(C)]
 #[derive(Clone, Copy)]
 pub struct Profile {
@@ -87,6 +75,7 @@ pub struct ProfileReading {
     pub profile: Profile,
 }
 
+// Kept as it is: the C interface needs a number for the flag, and has the proposal's three words one by one.
 #[repr(C)]
 #[derive(Clone, Copy)]
 pub struct Tally {
@@ -124,15 +113,6 @@ pub fn is_set(flag: u64) -> bool
     flag != 0
 }
 
-fn word_of(b: bool) -> u64
-    ensures { result ≡ word_of b }
-{
-    if b {
-        return 1;
-    }
-    0
-}
-
 // A width that is exact, or the most.
 pub fn total(ceiling: u64, width: usize) -> TotalShards
     ensures { result ≡ to_total ceiling width }
@@ -143,268 +123,317 @@ pub fn total(ceiling: u64, width: usize) -> TotalShards
     TotalShards::Exactly(width)
 }
 
-fn refused(no: u8) -> Answer
-    ensures { result ≡ to_answer (refused no) }
-{
-    Answer {
-        refusal: no as u64,
-        value: 0,
+// ---- answers
+
+// What the value of an answer is as a word.
+pub trait Word {
+    ghost word: { Self → ℕ };
+
+    fn word(self) -> u64
+        ensures { result ≡ word self };
+}
+
+impl Word for u64 {
+    ghost word = { λ k. k };
+
+    fn word(self) -> u64 {
+        self
     }
 }
 
-fn valued(v: u64) -> Answer
-    ensures { result ≡ to_answer (accepted v) }
-{
-    Answer {
-        refusal: 0,
-        value: v,
+impl Word for usize {
+    ghost word = { λ k. k };
+
+    fn word(self) -> u64 {
+        self as u64
     }
 }
 
-pub fn estimate(e: Estimate) -> FloatAnswer
-    ensures { result ≡ to_float (estimate e) }
-{
-    match e {
-        Estimate::Refused(no) => FloatAnswer {
-            refusal: no as u64,
-            value: 0.0,
-        },
-        Estimate::Value(x) => FloatAnswer {
-            refusal: 0,
-            value: x,
-        },
+impl Word for bool {
+    ghost word = { word_of };
+
+    fn word(self) -> u64 {
+        u64::from(self)
     }
 }
 
-pub fn listed(l: Listed) -> Answer
-    ensures { result ≡ to_answer (listed l) }
-{
-    match l {
-        Listed::Refused(no) => refused(no),
-        Listed::Count(c) => valued(c as u64),
+// The answer is in lent memory.
+impl Word for () {
+    ghost word = { λ _. 0 };
+
+    fn word(self) -> u64 {
+        0
     }
 }
 
-pub fn coverage(c: Coverage) -> Answer
-    ensures { result ≡ to_flag (coverage c) }
-{
-    match c {
-        Coverage::Refused(no) => refused(no),
-        Coverage::Covered => valued(1),
-        Coverage::Uncovered => valued(0),
+impl<T: Word> From<Result<T, Refusal>> for Answer {
+    ghost use Rattle.refusals.specs.Refused.{outcome_by};
+    ghost use Rattle.c_types.specs.CTypes.{to_answer};
+
+    ghost from_gives = { λ r a. a ≡ to_answer (outcome_by T.word r) };
+
+    fn from(r: Result<T, Refusal>) -> Answer {
+        match r {
+            Ok(value) => Answer {
+                refusal: 0,
+                value: value.word(),
+            },
+            Err(refusal) => Answer {
+                refusal: number(refusal),
+                value: 0,
+            },
+        }
     }
 }
 
-pub fn survival(s: Survival) -> Answer
-    ensures { result ≡ to_flag (survival s) }
+fn number(refusal: Refusal) -> u64
+    ensures { result ≡ number_of refusal }
 {
-    match s {
-        Survival::Refused(no) => refused(no),
-        Survival::Survived => valued(1),
-        Survival::Lost => valued(0),
+    u64::from(refusal.number())
+}
+
+impl From<Result<f64, Refusal>> for FloatAnswer {
+    ghost use Rattle.refusals.specs.Refused.{outcome_of};
+    ghost use Rattle.c_types.specs.CTypes.{to_float};
+
+    ghost from_gives = { λ r a. a ≡ to_float (outcome_of r) };
+
+    fn from(r: Result<f64, Refusal>) -> FloatAnswer {
+        match r {
+            Ok(value) => FloatAnswer { refusal: 0, value },
+            Err(refusal) => FloatAnswer {
+                refusal: number(refusal),
+                value: 0.0,
+            },
+        }
     }
 }
 
-pub fn laid(l: Laid) -> Answer
-    ensures { result ≡ to_answer (laid l) }
-{
-    match l {
-        Laid::Refused(no) => refused(no),
-        Laid::Width(w) => valued(w as u64),
-    }
-}
+impl From<Result<Trial, Refusal>> for Layout {
+    ghost use Rattle.refusals.specs.Refused.{outcome_by};
+    ghost use Rattle.layout.specs.Layout.{tested};
+    ghost use Rattle.c_types.specs.CTypes.{to_layout};
 
-pub fn tested(t: Tested) -> Layout
-    ensures { result ≡ to_layout (tested t) }
-{
-    match t {
-        Tested::Refused(no) => Layout {
-            refusal: no as u64,
-            width: 0,
-            commits: 0,
-        },
-        Tested::Layout { width, commits } => Layout {
-            refusal: 0,
-            width: width,
-            commits: word_of(commits),
-        },
+    ghost from_gives = { λ r a. a ≡ to_layout (outcome_by tested r) };
+
+    fn from(r: Result<Trial, Refusal>) -> Layout {
+        match r {
+            Ok(trial) => Layout {
+                refusal: 0,
+                width: trial.width,
+                commits: trial.commits.word(),
+            },
+            Err(refusal) => Layout {
+                refusal: number(refusal),
+                width: 0,
+                commits: 0,
+            },
+        }
     }
 }
 
 // A plan's rows are in the lent table.
-pub fn picked(p: Pick) -> Plan
-    ensures { result ≡ to_plan (picked p []) }
-{
-    match p {
-        Pick::Refused(no) => unplanned(no),
-        Pick::NoPlan => unplanned(0),
-        Pick::Planned { time, width } => Plan {
-            refusal: 0,
-            found: 1,
-            width: width,
-            time: time,
-        },
+impl From<Result<Option<assignment::Plan>, Refusal>> for Plan {
+    ghost use Rattle.std.specs.Prelude.{List};
+    ghost use Rattle.refusals.specs.Refused.{outcome_by};
+    ghost use Rattle.assignment.specs.Plans.{picked};
+    ghost use Rattle.c_types.specs.CTypes.{to_plan};
+
+    ghost from_gives = { λ r a. (rows : List ℕ) → a ≡ to_plan (outcome_by (picked rows) r) };
+
+    fn from(r: Result<Option<assignment::Plan>, Refusal>) -> Plan {
+        match r {
+            Ok(Some(plan)) => Plan {
+                refusal: 0,
+                found: 1,
+                width: plan.width,
+                time: plan.time,
+            },
+            Ok(None) => unplanned(0),
+            Err(refusal) => unplanned(number(refusal)),
+        }
     }
 }
 
 // No plan: refused, or with 0 none.
-pub fn unplanned(no: u8) -> Plan
-    ensures { result ≡ unplanned_of no }
+fn unplanned(refusal: u64) -> Plan
+    ensures { result ≡ unplanned_of refusal }
 {
     Plan {
-        refusal: no as u64,
+        refusal,
         found: 0,
         width: 0,
         time: 0.0,
     }
 }
 
-pub fn floored(f: Floor) -> Answer
-    ensures { result ≡ to_answer (floored f) }
-{
-    match f {
-        Floor::Refused(no) => refused(no),
-        Floor::Shards(k) => valued(k as u64),
-    }
-}
+impl From<Result<Policy, Refusal>> for Choice {
+    ghost use Rattle.refusals.specs.Refused.{outcome_by};
+    ghost use Rattle.adaptive.specs.Policy.{chosen};
+    ghost use Rattle.c_types.specs.CTypes.{to_choice};
 
-pub fn chosen(p: Policy) -> Choice
-    ensures { result ≡ to_choice (chosen p) }
-{
-    match p {
-        Policy::Refused(no) => initial(no),
-        Policy::Initial => initial(0),
-        Policy::Balanced(k) => Choice {
-            refusal: 0,
-            from_table: 1,
-            count: k,
-        },
+    ghost from_gives = { λ r a. a ≡ to_choice (outcome_by chosen r) };
+
+    fn from(r: Result<Policy, Refusal>) -> Choice {
+        match r {
+            Ok(Policy::Balanced(count)) => Choice {
+                refusal: 0,
+                from_table: 1,
+                count,
+            },
+            Ok(Policy::Initial) => initial(0),
+            Err(refusal) => initial(number(refusal)),
+        }
     }
 }
 
 // Not from the table: refused, or with 0 the initial layout.
-fn initial(no: u8) -> Choice
-    ensures { result ≡ initial_of no }
+fn initial(refusal: u64) -> Choice
+    ensures { result ≡ initial_of refusal }
 {
     Choice {
-        refusal: no as u64,
+        refusal,
         from_table: 0,
         count: 0,
     }
 }
 
-// The rows are in the lent table.
-pub fn init(i: Init) -> Answer
-    ensures { result ≡ to_done (init i []) }
-{
-    match i {
-        Init::Refused(no) => refused(no),
-        Init::Rows => valued(0),
-    }
-}
+impl From<Result<Status, Refusal>> for Reply {
+    ghost use Rattle.refusals.specs.Refused.{outcome_of};
+    ghost use Rattle.c_types.specs.CTypes.{to_reply};
 
-pub fn gossiped(g: Gossip) -> Answer
-    ensures { result ≡ to_answer (gossiped g) }
-{
-    match g {
-        Gossip::Refused(no) => refused(no),
-        Gossip::Asked(m) => valued(m),
-    }
-}
+    ghost from_gives = { λ r a. a ≡ to_reply (outcome_of r) };
 
-pub fn told(a: tally::Answer) -> Reply
-    ensures { result ≡ to_reply (told a) }
-{
-    match a {
-        tally::Answer::Refused(no) => status(no, 0),
-        tally::Answer::Waiting => status(0, 0),
-        tally::Answer::Committed => status(0, 1),
-        tally::Answer::AlreadyCommitted => status(0, 2),
-    }
-}
-
-fn status(no: u8, k: u64) -> Reply
-    ensures { result ≡ record { refusal = no; status = k } }
-{
-    Reply {
-        refusal: no as u64,
-        status: k,
+    fn from(r: Result<Status, Refusal>) -> Reply {
+        match r {
+            Ok(Status::Waiting) => Reply {
+                refusal: 0,
+                status: 0,
+            },
+            Ok(Status::Committed) => Reply {
+                refusal: 0,
+                status: 1,
+            },
+            Ok(Status::AlreadyCommitted) => Reply {
+                refusal: 0,
+                status: 2,
+            },
+            Err(refusal) => Reply {
+                refusal: number(refusal),
+                status: 0,
+            },
+        }
     }
 }
 
 // ---- profiles
 
-pub fn from_profile(p: Profile) -> profiles::Profile
-    ensures { result ≡ from_profile p }
-{
-    let probs = p.probs;
-    let domains = p.domains;
-    profiles::Profile {
-        domain_count: p.domain_count,
-        prob_count: p.prob_count,
-        runtime: is_set(p.runtime),
-        threshold: p.threshold,
-        probs: probs,
-        domains: domains,
+impl From<Profile> for profiles::Profile {
+    ghost use Rattle.c_types.specs.CTypes.{from_profile};
+
+    ghost from_gives = { λ p q. q ≡ from_profile p };
+
+    #[tactic(auto, unfolding(crate::specs::CTypes::from_profile))]
+    fn from(p: Profile) -> profiles::Profile {
+        let probs = p.probs;
+        let domains = p.domains;
+        profiles::Profile {
+            domain_count: p.domain_count,
+            prob_count: p.prob_count,
+            runtime: is_set(p.runtime),
+            threshold: p.threshold,
+            probs,
+            domains,
+        }
     }
 }
 
-fn to_profile(p: profiles::Profile) -> Profile
-    ensures { result ≡ to_profile p }
+impl From<profiles::Profile> for Profile {
+    ghost use Rattle.c_types.specs.CTypes.{to_profile};
+
+    ghost from_gives = { λ p q. q ≡ to_profile p };
+
+    #[tactic(auto, unfolding(crate::specs::CTypes::to_profile))]
+    fn from(p: profiles::Profile) -> Profile {
+        let probs = p.probs;
+        let domains = p.domains;
+        Profile {
+            domain_count: p.domain_count,
+            prob_count: p.prob_count,
+            runtime: p.runtime.word(),
+            threshold: p.threshold,
+            probs,
+            domains,
+        }
+    }
+}
+
+impl From<Result<profiles::Profile, Refusal>> for ProfileReading {
+    ghost use Rattle.refusals.specs.Refused.{outcome_of};
+    ghost use Rattle.c_types.specs.CTypes.{to_reading};
+
+    ghost from_gives = { λ r a. a ≡ to_reading (outcome_of r) };
+
+    #[tactic(auto, unfolding(crate::specs::CTypes::to_reading))]
+    fn from(r: Result<profiles::Profile, Refusal>) -> ProfileReading {
+        match r {
+            Ok(p) => ProfileReading {
+                refusal: 0,
+                profile: p.into(),
+            },
+            Err(refusal) => ProfileReading {
+                refusal: number(refusal),
+                profile: no_profile(),
+            },
+        }
+    }
+}
+
+// A profile that says nothing.
+#[tactic(auto, unfolding(crate::specs::CTypes::to_profile, profile_text::specs::ProfileText::nothing))]
+fn no_profile() -> Profile
+    ensures { result ≡ to_profile nothing }
 {
-    let probs = p.probs;
-    let domains = p.domains;
     Profile {
-        domain_count: p.domain_count,
-        prob_count: p.prob_count,
-        runtime: word_of(p.runtime),
-        threshold: p.threshold,
-        probs: probs,
-        domains: domains,
-    }
-}
-
-pub fn reading(r: Parsed) -> ProfileReading
-    ensures { result ≡ to_reading r }
-{
-    let a = r.answer;
-    let p = r.profile;
-    let q = to_profile(p);
-    ProfileReading {
-        refusal: number(a),
-        profile: q,
-    }
-}
-
-fn number(a: Reading) -> u64
-    ensures { result ≡ number_of a }
-{
-    match a {
-        Reading::Refused(no) => no as u64,
-        Reading::Read => 0,
+        domain_count: 0,
+        prob_count: 0,
+        runtime: 0,
+        threshold: 0.0,
+        probs: [0.0; 16],
+        domains: [0; 64],
     }
 }
 
 // ---- tallies
 
-pub fn from_tally(t: Tally) -> tally::Tally
-    ensures { result ≡ from_tally t }
-{
-    let rows = t.rows;
-    tally::Tally {
-        population: t.population,
-        quorum: t.quorum,
-        data_shards: t.data_shards,
-        width: t.width,
-        ballot: t.ballot,
-        value_high: t.value_high,
-        value_low: t.value_low,
-        heard: t.heard,
-        committed: is_set(t.committed),
-        rows: rows,
+impl From<Tally> for tally::Tally {
+    ghost use Rattle.c_types.specs.CTypes.{from_tally};
+
+    ghost from_gives = { λ t u. u ≡ from_tally t };
+
+    #[tactic(auto, unfolding(crate::specs::CTypes::from_tally))]
+    fn from(t: Tally) -> tally::Tally {
+        let rows = t.rows;
+        tally::Tally {
+            population: t.population,
+            quorum: t.quorum,
+            data_shards: t.data_shards,
+            width: t.width,
+            proposal: Proposal {
+                ballot: t.ballot,
+                value_high: t.value_high,
+                value_low: t.value_low,
+            },
+            heard: t.heard,
+            committed: is_set(t.committed),
+            rows,
+        }
     }
 }
 
+// A tally with the word of its flag.
+// Kept as it is: From is no plainer, since it takes one value, and the word comes from the caller's tally.
+#[tactic(auto, unfolding(crate::specs::CTypes::to_tally))]
 fn to_tally(t: tally::Tally, committed: u64) -> Tally
     ensures { result ≡ to_tally t committed }
 {
@@ -414,16 +443,17 @@ fn to_tally(t: tally::Tally, committed: u64) -> Tally
         quorum: t.quorum,
         data_shards: t.data_shards,
         width: t.width,
-        ballot: t.ballot,
-        value_high: t.value_high,
-        value_low: t.value_low,
+        ballot: t.proposal.ballot,
+        value_high: t.proposal.value_high,
+        value_low: t.proposal.value_low,
         heard: t.heard,
-        committed: committed,
-        rows: rows,
+        committed,
+        rows,
     }
 }
 
 // The tally t as a reply leaves it. A flag that was set stays as it was.
+#[tactic(auto, unfolding(crate::specs::CTypes::tally_left))]
 pub fn tally_left(t: Tally, u: tally::Tally) -> Tally
     ensures { result ≡ tally_left t u }
 {
@@ -437,30 +467,50 @@ fn flag_left(before: u64, committed: bool) -> u64
     if is_set(before) {
         return before;
     }
-    word_of(committed)
+    committed.word()
 }
 
-pub fn opening(o: tally::Opening) -> TallyOpening
-    ensures { result ≡ to_opening o }
+impl From<Result<tally::Tally, Refusal>> for TallyOpening {
+    ghost use Rattle.refusals.specs.Refused.{outcome_of};
+    ghost use Rattle.c_types.specs.CTypes.{to_opening};
+
+    ghost from_gives = { λ r a. a ≡ to_opening (outcome_of r) };
+
+    #[tactic(auto, unfolding(crate::specs::CTypes::to_opening))]
+    fn from(r: Result<tally::Tally, Refusal>) -> TallyOpening {
+        match r {
+            Ok(t) => TallyOpening {
+                refusal: 0,
+                tally: to_tally(t, t.committed.word()),
+            },
+            Err(refusal) => TallyOpening {
+                refusal: number(refusal),
+                tally: no_tally(),
+            },
+        }
+    }
+}
+
+// A tally of nothing.
+#[tactic(auto, unfolding(crate::specs::CTypes::to_tally, tally::specs::Tally::fresh))]
+fn no_tally() -> Tally
+    ensures { result ≡ to_tally no_tally 0 }
 {
-    let t = o.tally;
-    let u = to_tally(t, word_of(t.committed));
-    TallyOpening {
-        refusal: o.refusal as u64,
-        tally: u,
+    Tally {
+        population: 0,
+        quorum: 0,
+        data_shards: 0,
+        width: 0,
+        ballot: 0,
+        value_high: 0,
+        value_low: 0,
+        heard: 0,
+        committed: 0,
+        rows: [0; 64],
     }
 }
 
 // ---- tables by replica: what a table lacks is 0, and replicas past it are silent or unread
-
-fn float_at(xs: &[f64], i: usize) -> f64
-    ensures { result ≡ float_at xs.now i }
-{
-    if i < xs.len() {
-        return xs[i];
-    }
-    0.0
-}
 
 // Whether a table of that many words has so many for each of n replicas. A part: that is at least one.
 pub fn is_records(len: usize, each: usize, n: usize) -> bool
@@ -477,24 +527,28 @@ fn peer_at(heard: u64, models: &[f64], inflight: &[u64], p: usize) -> PeerRecord
     requires { p < 16 }
     ensures { result ≡ peer_at heard models.now inflight.now p }
 {
-    if bitmap::has_replica(heard, ReplicaId(p)) {
+    let inflight = bitmap::word_at(inflight, p);
+    if !bitmap::has_replica(heard, ReplicaId(p)) {
         return PeerRecord {
-            peer: Peer::Heard {
-                slope: float_at(models, p * 4),
-                delay: float_at(models, p * 4 + 1),
-                jitter: float_at(models, p * 4 + 2),
-                unreliability: float_at(models, p * 4 + 3),
-            },
-            inflight: bitmap::word_at(inflight, p),
+            peer: Peer::Silent,
+            inflight,
         };
     }
+    let float = |k: usize| models.get(k).copied().unwrap_or(0.0);
     PeerRecord {
-        peer: Peer::Silent,
-        inflight: bitmap::word_at(inflight, p),
+        peer: Peer::Heard {
+            slope: float(p * 4),
+            delay: float(p * 4 + 1),
+            jitter: float(p * 4 + 2),
+            unreliability: float(p * 4 + 3),
+        },
+        inflight,
     }
 }
 
 // The records of a plan: four floats a replica, and whether it is heard.
+// Kept as it is: the C interface lends the tables side by side, so that From has no one value to take.
+#[tactic(auto, unfolding(crate::specs::Tables::from_peers))]
 pub fn from_peers(heard: u64, models: &[f64], inflight: &[u64]) -> [PeerRecord; 16]
     ensures { result ≡ from_peers heard models.now inflight.now }
 {
@@ -502,10 +556,8 @@ pub fn from_peers(heard: u64, models: &[f64], inflight: &[u64]) -> [PeerRecord; 
         peer: Peer::Silent,
         inflight: 0,
     }; 16];
-    let mut p = 0;
-    while p < 16 {
+    for p in 0..16 {
         records[p] = peer_at(heard, models, inflight, p);
-        p += 1;
     }
     records
 }

@@ -1,44 +1,28 @@
 -- How a flattened answer comes about, and what the lent rows then hold. The premises are what a need's record holds. Assumes nothing.
 use mathlib.Core.Path.{◌≡◌, refl, sym, ap, ◌∙◌}
 use mathlib.Core.List.{List, []}
-use mathlib.Core.Option.{Option}
+use Rattle.std.specs.Prelude.{Option, Result}
 use Prim.Native.Nat.{ℕ, zero, suc}
 use lib.Ieee.{Float}
 use lib.ListN.{length}
 use Rattle.refusals.specs.First.{first_of}
 use Rattle.refusals.specs.FirstLaws.{otherwise}
 use Rattle.refusals.specs.Outcome.{Outcome, refused}
+use Rattle.refusals.specs.Refused.{outcome_by}
+use Rattle.refusals.specs.declared.Refusal.{Refusal}
 use Rattle.refusals.proofs.Outcomes.{is_checked}
 use Rattle.layout.specs.declared.TotalShards.{TotalShards}
-use Rattle.layout_text.specs.declared.Init.{Init}
-use Rattle.layout_text.specs.declared.Init.TheVariants as Reading
-use Rattle.layout_text.specs.LayoutText.{answer}
 use Rattle.times.specs.declared.PeerRecord.{PeerRecord}
-use Rattle.assignment.specs.declared.Pick.{Pick}
-use Rattle.assignment.specs.declared.Pick.TheVariants.{Refused, NoPlan, Planned}
+use Rattle.assignment.specs.declared.Plan as Coded
 use Rattle.assignment.specs.Plans.{Plan, pick_refusal, pick_of, picked, planned}
-use Rattle.c_types.specs.declared.Answer.{Answer}
 use Rattle.c_types.specs.declared.Plan as C-plan
-use Rattle.c_types.specs.CTypes.{to_total, to_done, to_plan, unplanned_of}
+use Rattle.c_types.specs.CTypes.{to_total, to_plan, unplanned_of}
 use Rattle.c_types.specs.Tables.{from_peers}
 use Rattle.callboard.specs.Interface.{plan_cases, pick_in}
 use Rattle.callboard.specs.Tests.{plan_tables}
 use Rattle.callboard.proofs.Numbers.{checked_twice, planned_number}
 
--- ---- `callboard_parse_init_assignment`: the answer does not hold the rows
-pub is_done : (i : Init) (rows : List ℕ) {r : Answer} {o : Outcome (List ℕ)} → r ≡ to_done (answer i []) → answer i rows ≡ o → r ≡ to_done o
-is_done i rows q e = q ∙ go i ∙ ap to_done e
-  where
-    go : (i : Init) → to_done (answer i []) ≡ to_done (answer i rows)
-    go (Reading.Refused k) = refl
-    go Reading.Rows = refl
-
 -- ---- `callboard_pick_assignment`: got is the number that refuses, or 0
-plan_rows : (p : Pick) (rows : List ℕ) → to_plan (picked p []) ≡ to_plan (picked p rows)
-plan_rows (Refused k) rows = refl
-plan_rows NoPlan rows = refl
-plan_rows (Planned t w) rows = refl
-
 first : (j k : ℕ) → (j ≡ 0 → ⊥) → otherwise j k ≡ j
 first zero k h = absurd (h refl)
 first (suc j) k h = refl
@@ -81,6 +65,6 @@ module _ (n own quorum d ceiling width size : ℕ) (penalty : Float) (heard : �
         let f : asked ≡ number = sym (ap (λ (j : ℕ). otherwise j asked) z) ∙ refusing in
         rw (p, t, ← f) (sym (checked_twice asked _))
 
-    pub picked_plan : {r : C-plan.Plan} {after : List ℕ} (p : Pick) → r ≡ to_plan (picked p []) → picked p after ≡ entry → after ≡ planned entry rows
-        → (r ≡ to_plan plan) × (after ≡ planned plan rows)
-    picked_plan p q h u = (q ∙ plan_rows p _ ∙ ap to_plan (h ∙ unrefused), u ∙ ap (λ (o : Outcome (Option Plan)). planned o rows) unrefused)
+    pub picked_plan : {r : C-plan.Plan} {after : List ℕ} (p : Result (Option Coded.Plan) Refusal) → r ≡ to_plan (outcome_by (picked after) p)
+        → outcome_by (picked after) p ≡ entry → after ≡ planned entry rows → (r ≡ to_plan plan) × (after ≡ planned plan rows)
+    picked_plan p q h u = (q ∙ ap to_plan (h ∙ unrefused), u ∙ ap (λ (o : Outcome (Option Plan)). planned o rows) unrefused)

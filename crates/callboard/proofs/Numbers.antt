@@ -2,18 +2,21 @@
 use mathlib.Core.Path.{◌≡◌, refl, sym, ap, ◌∙◌}
 use mathlib.Core.Bool.{Bool, true, false, not, cond, and-eq-true_iff}
 use mathlib.Core.List.{List, [], ◌∷◌}
-use mathlib.Core.Option.{Option}
+use Rattle.std.specs.Prelude.{Option}
 use Prim.Native.Nat.{ℕ, zero, suc, ◌<◌}
 use native.Mathlib.Omega.{arith}
 use lib.Dec.{ltb}
 use lib.Ieee.{Float}
 use lib.ListN.{length}
 use borrow.Author.Tests.{lt-leb, ltb-true, ne_eqb}
-use Rattle.lists.specs.All.{all}
+use Rattle.std.specs.List.{list_all}
 use Rattle.refusals.specs.Numbers.{TABLE}
 use Rattle.refusals.specs.First.{Case, first_of}
 use Rattle.refusals.specs.FirstLaws.{otherwise}
-use Rattle.refusals.specs.Outcome.{Outcome, checked, outcome}
+use Rattle.refusals.specs.Outcome.{Outcome, refused, accepted, checked, outcome}
+use Rattle.refusals.specs.Refused.{number_of}
+use Rattle.refusals.specs.declared.Refusal.{Refusal}
+use Rattle.refusals.proofs.Outcomes.{number_some}
 use Rattle.refusals.specs.Limits.{is_fault_list, is_table}
 use Rattle.layout.specs.declared.TotalShards.{TotalShards}
 use Rattle.assignment.specs.Plans.{pick_input_cases, pick_table_cases, pick_refusal}
@@ -32,10 +35,10 @@ checked_twice (suc k) o = refl
 -- ---- plans
 
 -- the number of cases that are all below m
-first_under : (m : ℕ) (cs : List Case) → 0 < m → all (λ (c : Case). ltb c.1 m) cs ≡ true → first_of cs < m
+first_under : (m : ℕ) (cs : List Case) → 0 < m → list_all (λ (c : Case). ltb c.1 m) cs ≡ true → first_of cs < m
 first_under m [] h u = h
 first_under m (c ∷ cs) h u =
-    let b = (and-eq-true_iff (ltb c.1 m) (all (λ (d : Case). ltb d.1 m) cs)).0 u in
+    let b = (and-eq-true_iff (ltb c.1 m) (list_all (λ (d : Case). ltb d.1 m) cs)).0 u in
     go c.0 (ltb-true c.1 m b.0) (first_under m cs h b.1)
   where
     go : (b : Bool) → c.1 < m → first_of cs < m → cond b c.1 (first_of cs) < m
@@ -99,3 +102,16 @@ module _ (n f own d w majority size adaptive balanced : ℕ) (models : List Floa
       let k = policy_refusal n f own d w majority size inflight models alive initial table in
       rw (choice_number n f own d w majority size adaptive balanced models inflight alive initial table fits, lent_is fits)
       (fitted k fits _)
+
+-- the choice of an entry that is refused, or whose table does not fit, or that stands
+pub fitting_refused : (b : Bool) (k : ℕ) → refused k ≡ fitting_of b (refused k)
+fitting_refused true k = refl
+fitting_refused false k = refl
+
+pub fitting_unlent : (b : Bool) (e : Refusal) (c : Option ℕ) → number_of e ≡ cond b 0 TABLE → refused (number_of e) ≡ fitting_of b (accepted c)
+fitting_unlent true e c h = absurd (number_some e h)
+fitting_unlent false e c h = ap refused h
+
+pub fitting_lent : (b : Bool) (c : Option ℕ) → 0 ≡ cond b 0 TABLE → accepted c ≡ fitting_of b (accepted c)
+fitting_lent true c h = refl
+fitting_lent false c h = absurd (omega arith)

@@ -2,7 +2,7 @@
 use mathlib.Core.Path.{◌≡◌, refl, sym, ap, subst, ◌∙◌}
 use mathlib.Core.Bool.{Bool, true, false}
 use mathlib.Core.List.{List, [], ◌∷◌}
-use mathlib.Core.Option.{Option, none, some}
+use Rattle.std.specs.Prelude.{Option, None, Some}
 use Prim.Native.Nat.{ℕ, suc, ◌*◌}
 use native.Mathlib.Omega.{arith}
 use lib.Ieee.{Float}
@@ -56,8 +56,8 @@ module _ (n f own d w majority size adaptive balanced : ℕ) (models : List Floa
       go false e = subst (λ (p : Outcome (Option ℕ)). Holds n d majority p (length initial) (length table)) (sym e) (unheld policy)
 
   unrefused : (c : Option ℕ) → policy ≡ accepted c → policy_refusal n f own d w majority size inflight models alive initial table ≡ 0
-  unrefused none e = ((initial_means n f own d w majority size inflight models alive initial table (is_set adaptive) (is_set balanced)).0 e).0
-  unrefused (some c) e =
+  unrefused None e = ((initial_means n f own d w majority size inflight models alive initial table (is_set adaptive) (is_set balanced)).0 e).0
+  unrefused (Some c) e =
       ((choice_means n f own d w majority size inflight models alive initial table (is_set adaptive) (is_set balanced) c).0 e).unrefused
 
   -- an accepted choice has n rows

@@ -1,6 +1,6 @@
 -- The C interface of plans and of the policy: the entry over the tables lent by replica, whose lengths it tests. Assumes nothing.
 use Rattle.std.specs.Prelude.{Bool, cond, List, [], ◌∷◌, ◌++◌, ℕ, eqb, Float, length}
-use Rattle.std.proofs.Math.Option.{Option}
+use Rattle.std.specs.Prelude.{Option}
 use Rattle.refusals.specs.Numbers.{MASK, TABLE}
 use Rattle.refusals.specs.First.{Case, unless, first_of}
 use Rattle.refusals.specs.Outcome.{Outcome, refused, accepted, checked}

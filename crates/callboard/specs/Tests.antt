@@ -1,7 +1,7 @@
 -- What the tests of the tables return: contracts of private functions alone speak of them. `plan_cases` and `choice_cases` say what refuses.
 -- Assumes nothing.
 use Rattle.std.specs.Prelude.{Bool, true, false, ◌||◌, ◌∷◌, ℕ, eqb, leb}
-use Rattle.std.proofs.Math.Option.{Option}
+use Rattle.std.specs.Prelude.{Option}
 use Rattle.refusals.specs.Numbers.{MASK, TABLE}
 use Rattle.refusals.specs.First.{unless, first_of}
 use Rattle.refusals.specs.Outcome.{Outcome, refused, and_then}

@@ -1,10 +1,11 @@
 // The static library: an export for each function of the C interface (include/callboard.h), with the same clauses. Each calls the function
 // of its name in the crate callboard, which has the interface as a library.
+// Kept as it is: the C interface needs its exports in a static library, which no library can be, so the clauses are said twice.
 #![tactic(auto)]
 
 ghost use Rattle.std.specs.Prelude.{◌≡◌, true, length};
 ghost use Rattle.profiles.specs.Unreliability.{unreliability_of};
-ghost use Rattle.profile_text.specs.ProfileText.{profile_of, parsed};
+ghost use Rattle.profile_text.specs.ProfileText.{profile_of};
 ghost use Rattle.faults.specs.FaultList.{fault_list_of, fault_words};
 ghost use Rattle.coverage.specs.Coverage.{covers_of, survived_of};
 ghost use Rattle.layout.specs.Layout.{layout_rows_of, rows_written, layout_commits_of, trial_written};
@@ -17,7 +18,7 @@ ghost use Rattle.refusals.specs.Limits.{is_table};
 ghost use Rattle.rows.specs.Row.{row_of};
 ghost use Rattle.gossip.specs.Gossip.{gossip_of, exclusions_left};
 ghost use Rattle.tally.specs.Tally.{opening_of, told, reply_of, tally_after};
-ghost use Rattle.c_types.specs.CTypes.{to_total, to_answer, to_flag, to_done, to_float, to_layout, to_plan, to_choice, to_reply, to_reading, from_profile, from_tally, tally_left, to_opening};
+ghost use Rattle.c_types.specs.CTypes.{to_total, to_answer, to_flag, to_done, to_float, to_layout, to_plan, to_choice, to_reply, to_reading, from_profile, from_tally, tally_left, to_opening, proposal_of};
 ghost use Rattle.callboard.specs.Interface.{pick_in, policy_in, copied, rows_left};
 ghost use Rattle.callboard.specs.Tests.{is_past, plan_tables, fitting_of};
 
@@ -28,7 +29,7 @@ use rows::Row;
 
 #[unsafe(no_mangle)]
 pub extern "C" fn callboard_parse_profile(n: usize, text: &[u8]) -> ProfileReading
-    ensures { result ≡ to_reading (parsed (profile_of n text.now)) }
+    ensures { result ≡ to_reading (profile_of n text.now) }
 {
     callboard::callboard_parse_profile(n, text)
 }
@@ -262,7 +263,7 @@ pub extern "C" fn callboard_tally_open(
     high: u64,
     low: u64,
 ) -> TallyOpening
-    ensures { result ≡ to_opening (opening_of n quorum d w ballot high low) }
+    ensures { result ≡ to_opening (opening_of n quorum d w (proposal_of ballot high low)) }
 {
     callboard::callboard_tally_open(n, quorum, d, w, ballot, high, low)
 }
@@ -278,8 +279,8 @@ pub extern "C" fn callboard_accept_reply(
     row: Row,
     faults: &[u64],
 ) -> Reply
-    ensures { (result ≡ to_reply (reply_of (from_tally t.old) (told source ballot high low (row_of row) faults.now)))
-        × (t.new ≡ tally_left t.old (tally_after (from_tally t.old) (told source ballot high low (row_of row) faults.now))) }
+    ensures answer { result ≡ to_reply (reply_of (from_tally t.old) (told source (proposal_of ballot high low) (row_of row) faults.now)) }
+    ensures tally { t.new ≡ tally_left t.old (tally_after (from_tally t.old) (told source (proposal_of ballot high low) (row_of row) faults.now)) }
 {
     callboard::callboard_accept_reply(t, source, ballot, high, low, row, faults)
 }

@@ -5,7 +5,7 @@ use Rattle.std.proofs.Common.{sym, subst, ◌∙◌, inl, inr, ⊎_elim, true≢
 use Rattle.std.proofs.Math.Path.{ap}
 use Rattle.std.proofs.Math.Bool.{cond}
 use mathlib.Core.List.{List, Memᴰ}
-use Rattle.std.proofs.Math.Option.{none, some}
+use Rattle.std.specs.Prelude.{None, Some}
 use Prim.Native.Nat.{ℕ, zero, suc, ◌+◌, ◌-◌, ◌*◌, ◌/◌, ◌%◌, ◌^◌, ◌≤◌, ◌<◌}
 use Rattle.std.proofs.Math.Nat.{le_of_suc-le-suc}
 use Rattle.std.proofs.Math.Decide.{ℕ_discrete}
@@ -215,17 +215,17 @@ first_before f xs x = (
 module _ (n own quorum d : ℕ) (total : TotalShards) (faults : List ℕ) (times : List Float) where
   -- the time that is found is a candidate, commits, and stands before every other candidate that does
   pub first_time_means : AllOf Fits times → (t : Float)
-      → (first_time n own quorum d total faults times ≡ some t) ↔ First (commits_at n own quorum d total faults times) (candidates times) t
+      → (first_time n own quorum d total faults times ≡ Some t) ↔ First (commits_at n own quorum d total faults times) (candidates times) t
   unfolding first_time
   first_time_means a t =
       first_means total_le Order.total Order.trans Fits Order.antisym (commits_at n own quorum d total faults times) (candidates times) t (candidates_fit times a)
 
   -- none is found exactly if no candidate commits
-  pub no_time_means : (first_time n own quorum d total faults times ≡ none) ↔ ((y : Float) → Memᴰ y (candidates times) → commits_at n own quorum d total faults times y ≡ false)
+  pub no_time_means : (first_time n own quorum d total faults times ≡ None) ↔ ((y : Float) → Memᴰ y (candidates times) → commits_at n own quorum d total faults times y ≡ false)
   unfolding first_time
   no_time_means = none_means total_le Order.total Order.trans Fits Order.antisym (commits_at n own quorum d total faults times) (candidates times)
 
   -- no candidate before the time that is found commits
-  pub none_before : AllOf Fits times → (t : Float) → first_time n own quorum d total faults times ≡ some t
+  pub none_before : AllOf Fits times → (t : Float) → first_time n own quorum d total faults times ≡ Some t
       → (y : Float) → Memᴰ y (candidates times) → total_le t y ≡ false → commits_at n own quorum d total faults times y ≡ false
   none_before a t e = ((first_before (commits_at n own quorum d total faults times) (candidates times) t).0 ((first_time_means a t).0 e)).2

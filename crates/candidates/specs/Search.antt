@@ -1,8 +1,8 @@
 -- The search of a plan over the table of times. Assumes nothing.
 use Rattle.std.specs.Prelude.{Bool, cond, List, ℕ, suc, ◌-◌, ltb, eqb, Float}
-use Rattle.std.proofs.Math.Option.{Option}
+use Rattle.std.specs.Prelude.{Option}
 use Rattle.std.specs.Float.Ieee.{le}
-use Rattle.lists.specs.All.{passing}
+use Rattle.std.specs.List.{filter}
 use Rattle.lists.specs.Below.{run_of, each_below}
 use Rattle.lists.specs.First.{first_that}
 use Rattle.lists.specs.Sort.{sorted_by}
@@ -16,7 +16,7 @@ use Rattle.times.specs.Times.{time_in}
 
 -- all finite times
 abbrev pub candidates : List Float → List Float
-candidates times = passing is_finite times
+candidates times = filter is_finite times
 
 -- ---- loads at a time
 

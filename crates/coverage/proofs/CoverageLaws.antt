@@ -12,7 +12,7 @@ use Rattle.std.proofs.Math.Decide.{ℕ_discrete}
 use Rattle.std.specs.Int.Bits.{bit_or}
 use Rattle.std.proofs.lemmas.Nat.{or_lt}
 use Rattle.std.proofs.lemmas.Bool.{eqb-false, not-true}
-use Rattle.lists.specs.All.{all}
+use Rattle.std.specs.List.{list_all}
 use Rattle.lists.specs.AllLaws.{all_means, any_means}
 use Rattle.bitmap.specs.Mask.{bit, has_bit, all_below, count}
 use Rattle.rows.specs.Row.{row_in}
@@ -101,13 +101,13 @@ pub covered_means : (n d heard : ℕ) (row : ℕ → ℕ) (faults : List ℕ) �
 unfolding is_covered
 covered_means n d heard row faults = (
   λ e.
-      let p = (and-eq-true_iff (not (eqb heard 0)) (all (leaves n d heard row) faults)).0 e in
+      let p = (and-eq-true_iff (not (eqb heard 0)) (list_all (leaves n d heard row) faults)).0 e in
       record {
         somebody = eqb-false heard 0 (not-true (eqb heard 0) p.0);
         each_set = λ i l. (leaves_means n d heard row (get_or faults i 0)).0 ((all_means (leaves n d heard row) 0 faults).0 p.1 i l);
       },
   λ s.
-      (and-eq-true_iff (not (eqb heard 0)) (all (leaves n d heard row) faults)).1 (
+      (and-eq-true_iff (not (eqb heard 0)) (list_all (leaves n d heard row) faults)).1 (
         ap not (ne_eqb heard 0 s.somebody),
         (all_means (leaves n d heard row) 0 faults).1 (λ i l. (leaves_means n d heard row (get_or faults i 0)).1 (s.each_set i l)),
       ),

@@ -1,17 +1,13 @@
 -- The commit rule (`covers`) and the discard rule (`survived_by`). Assumes nothing.
-use Rattle.std.specs.Prelude.{Bool, true, false, cond, not, ◌&&◌, List, [], ◌∷◌, ℕ, zero, suc, ◌^◌, ◌<◌, leb, eqb, length}
+use Rattle.std.specs.Prelude.{Bool, cond, not, ◌&&◌, List, [], ◌∷◌, ℕ, zero, suc, ◌^◌, ◌<◌, leb, eqb, length}
 use Rattle.std.specs.Int.Bits.{bit_or}
-use Rattle.lists.specs.All.{all, any}
+use Rattle.std.specs.List.{list_all, list_any}
 use Rattle.bitmap.specs.Mask.{has_bit, all_below, count}
 use Rattle.rows.specs.Row.{row_in}
 use Rattle.refusals.specs.Numbers.{POPULATION, SHARDS, MASK, TABLE}
 use Rattle.refusals.specs.First.{Case, unless, first_of}
-use Rattle.refusals.specs.Outcome.{Outcome, refused, accepted, outcome}
+use Rattle.refusals.specs.Outcome.{Outcome, outcome}
 use Rattle.refusals.specs.Limits.{is_population, is_shards, is_mask, are_rows, is_table, is_fault_list}
-use Rattle.coverage.specs.declared.Coverage.{Coverage}
-use Rattle.coverage.specs.declared.Coverage.TheVariants as Covering
-use Rattle.coverage.specs.declared.Survival.{Survival}
-use Rattle.coverage.specs.declared.Survival.TheVariants as Surviving
 
 -- ---- coverage
 
@@ -38,7 +34,7 @@ RowsBelow n w row = (s : ℕ) → s < n → row s < 2 ^ w
 
 -- nobody heard never covers; otherwise each listed set, taken away, must leave at least d distinct shards
 unfoldable pub is_covered : ℕ → ℕ → ℕ → (ℕ → ℕ) → List ℕ → Bool
-is_covered n d heard row faults = not (eqb heard 0) && all (leaves n d heard row) faults
+is_covered n d heard row faults = not (eqb heard 0) && list_all (leaves n d heard row) faults
 
 -- at least a quorum is heard, and coverage holds
 unfoldable pub commits : ℕ → ℕ → ℕ → ℕ → (ℕ → ℕ) → List ℕ → Bool
@@ -57,12 +53,6 @@ covers_cases n d w heard rows faults =
 unfoldable pub covers_refusal : ℕ → ℕ → ℕ → ℕ → List ℕ → List ℕ → ℕ
 covers_refusal n d w heard rows faults = first_of (covers_cases n d w heard rows faults)
 
--- what an answer is: the number that refuses, or whether it is covered
-abbrev pub coverage : Coverage → Outcome Bool
-coverage (Covering.Refused k) = refused k
-coverage Covering.Covered = accepted true
-coverage Covering.Uncovered = accepted false
-
 unfoldable pub covers_of : ℕ → ℕ → ℕ → ℕ → List ℕ → List ℕ → Outcome Bool
 covers_of n d w heard rows faults = outcome (covers_refusal n d w heard rows faults) (is_covered n d heard (row_in rows) faults)
 
@@ -78,18 +68,13 @@ spares n heard f = completes heard (all_below n) f
 
 -- some listed set does
 abbrev pub is_survived : ℕ → ℕ → List ℕ → Bool
-is_survived n heard faults = any (spares n heard) faults
+is_survived n heard faults = list_any (spares n heard) faults
 
 abbrev pub survived_cases : ℕ → ℕ → List ℕ → List Case
 survived_cases n heard faults = unless (is_population n) POPULATION ∷ unless (is_mask n heard) MASK ∷ unless (is_fault_list n faults) TABLE ∷ []
 
 unfoldable pub survived_refusal : ℕ → ℕ → List ℕ → ℕ
 survived_refusal n heard faults = first_of (survived_cases n heard faults)
-
-abbrev pub survival : Survival → Outcome Bool
-survival (Surviving.Refused k) = refused k
-survival Surviving.Survived = accepted true
-survival Surviving.Lost = accepted false
 
 unfoldable pub survived_of : ℕ → ℕ → List ℕ → Outcome Bool
 survived_of n heard faults = outcome (survived_refusal n heard faults) (is_survived n heard faults)

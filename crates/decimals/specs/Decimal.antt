@@ -2,13 +2,11 @@
 use Rattle.std.specs.Prelude.{Bool, false, cond, not, ◌&&◌, ◌||◌, List, [], ◌∷◌, ℕ, ◌+◌, ◌*◌, ◌^◌, leb, ltb, eqb, Float, length, take, drop}
 use Rattle.std.specs.Float.{binary64}
 use Rattle.std.specs.Float.Ieee.{round}
-use Rattle.lists.specs.All.{all, any}
+use Rattle.std.specs.List.{list_all, list_any}
 use Rattle.refusals.specs.Numbers.{NUMERAL, DIGITS}
 use Rattle.refusals.specs.Outcome.{Outcome, refused, accepted}
 use Rattle.numerals.specs.Text.{without, cut_by, before, behind}
 use Rattle.numerals.specs.Whole.{is_digit, is_digits, spelt}
-use Rattle.decimals.specs.declared.Decimal.{Decimal}
-use Rattle.decimals.specs.declared.Decimal.TheVariants.{Refused, Value}
 
 -- ---- as it is written
 
@@ -50,7 +48,7 @@ written_of s = record {
   negative = is_negative s;
   whole = before 46 (mantissa (unsigned s));
   fraction = behind 46 (mantissa (unsigned s));
-  raised = any is_e (unsigned s);
+  raised = list_any is_e (unsigned s);
   lowers = is_negative (exponent (unsigned s));
   power = unsigned (exponent (unsigned s));
 }
@@ -60,7 +58,7 @@ written_of s = record {
 -- digits alone, but for the point, at least one of them, and in an exponent too
 abbrev pub is_well_formed : Written → Bool
 is_well_formed w =
-    all is_digit w.whole && (all is_digit w.fraction && (ltb 0 (length w.whole + length w.fraction) && (not w.raised || is_digits w.power)))
+    list_all is_digit w.whole && (list_all is_digit w.fraction && (ltb 0 (length w.whole + length w.fraction) && (not w.raised || is_digits w.power)))
 
 -- the digits before the exponent, counted as written
 abbrev pub counted : Written → ℕ
@@ -92,8 +90,3 @@ read_of w = cond (is_well_formed w) (cond (is_short w) (accepted (value_of w)) (
 
 unfoldable pub decimal_of : List ℕ → Outcome Float
 decimal_of s = read_of (written_of s)
-
--- what an answer is
-abbrev pub decimal : Decimal → Outcome Float
-decimal (Refused k) = refused k
-decimal (Value x) = accepted x

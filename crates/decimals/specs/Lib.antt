@@ -1,2 +1,3 @@
 -- Decimals: as they are written, which are refused, and the double that one is.
 pub mod Decimal
+pub mod Parts

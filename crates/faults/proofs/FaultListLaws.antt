@@ -8,7 +8,7 @@ use mathlib.Core.List.Memᴰ
 use mathlib.Core.List.{List, [], ◌∷◌, ◌++◌, Memᴰ}
 use borrow.Author.Tests.{eq-eqb, ne_eqb, lt-ltb, ltb-true, not-false}
 use Rattle.std.proofs.Math.Seq.{take-append_seam}
-use Rattle.lists.specs.All.{all}
+use Rattle.std.specs.List.{list_all}
 use Rattle.lists.specs.AllLaws.{all_means}
 use Rattle.lists.specs.Below.{front}
 use Rattle.lists.specs.ListedLaws.{listed_all}
@@ -61,7 +61,7 @@ maximals_listed g n m l e whole =
         (and-eq-true_iff (is_mask n s) (not (eqb s (all_below n)))).1
         (lt-ltb s (2 ^ n) p.0, ap not (ne_eqb s (all_below n) (λ (q : s ≡ all_below n). true≢false (sym p.1 ∙ ap g q ∙ whole))))
 
-    each : all (is_fault_set n) (maximals g n) ≡ true
+    each : list_all (is_fault_set n) (maximals g n) ≡ true
     each = listed_all (is_fault_set n) (maximals g n) (λ s d. fits s ((maximal_means g n s).0 d))
 
 module _ (n f : ℕ) (p : Profile) where

@@ -11,14 +11,14 @@ use borrow.Author.Tests.{eq-eqb, ne_eqb, eqb-true, eqb-false}
 use lib.Dec.{eqb}
 use lib.Pow.{pow_pos, pow_mono, shr-shr, mod-pow-add, high, low, split}
 use lib.Ieee.{Float, binary64, mul, le}
-use lib.ListN.{length, get_or, take, drop, replicate}
+use lib.ListN.{length, get_or, take, drop}
 use lib.Seq.{drop-cons, take-suc}
 use borrow.Author.Count.{below_more}
-use Rattle.lists.specs.All.{any}
+use Rattle.std.specs.List.{list_any}
 use Rattle.bitmap.specs.Mask.{count}
 use Rattle.bitmap.proofs.Words.{one_shl}
 use Rattle.marks.specs.Marks.{flagged, with_flag}
-use Rattle.marks.specs.MarkLaws.{flagged_with, none_flagged}
+use Rattle.marks.specs.MarkLaws.{flagged_with}
 use Rattle.faults.specs.Family.{times_of, is_sized, is_among}
 use Rattle.faults.proofs.FamilyLaws.{times_none}
 use Rattle.faults.specs.Marks.{is_hit, Marked}
@@ -195,58 +195,68 @@ pub marked_same : (size : ℕ) (f g : ℕ → Bool) (a b : List ℕ) → Marked 
 unfolding Marked
 marked_same size f g a b m s j l = m j l ∙ rw (s j)
 
--- ---- the sets of exactly f replicas: those below m are flagged, and nothing else
-module _ (f : ℕ) where
+-- ---- a table with the replicas that it had before
+module _ (n k : ℕ) (same : k ≡ n) where
+  -- a set of them has a bit in it
+  pub has_bit_for : (m : ℕ) (t : List ℕ) → m < 2 ^ n → 2 ^ k ≤ 64 * length t → m < 64 * length t
+  has_bit_for m t h e = let r : 2 ^ n ≤ 64 * length t = rw same at e in omega arith
+
+  pub marked_for : (f : ℕ → Bool) (a b : List ℕ) → Marked (2 ^ k) f a b → Marked (2 ^ n) f a b
+  marked_for f a b h = rw same at h
+
+-- ---- a loop over the sets: of the family g those below m are flagged, and the others as they were
+module _ (g : ℕ → Bool) (before : List ℕ) where
   abbrev pub Done : ℕ → List ℕ → Type 0
-  Done m t = (j : ℕ) → j < m → flagged t j ≡ is_sized f j
+  Done m t = (j : ℕ) → j < m → flagged t j ≡ (g j || flagged before j)
 
-  abbrev pub Blank : ℕ → List ℕ → Type 0
-  Blank m t = (j : ℕ) → m ≤ j → flagged t j ≡ false
+  abbrev pub Left : ℕ → List ℕ → Type 0
+  Left m t = (j : ℕ) → m ≤ j → flagged t j ≡ flagged before j
 
-  pub blank_first : (k : ℕ) (t : List ℕ) → t ≡ replicate k 0 → Blank 0 t
-  blank_first k t e j h = ap (λ (x : List ℕ). flagged x j) e ∙ none_flagged k j
+  module _ (m : ℕ) (t : List ℕ) (done : Done m t) (left : Left m t) where
+    pub done_leave : g m ≡ false → Done (m + 1) t
+    done_leave e = below_more (λ (j : ℕ). flagged t j ≡ (g j || flagged before j)) m done (left m (omega arith) ∙ rw e)
 
-  module _ (m : ℕ) (t : List ℕ) (blank : Blank m t) where
-    pub blank_leave : (after : List ℕ) → after ≡ t → Blank (m + 1) after
-    blank_leave after e j h = ap (λ (x : List ℕ). flagged x j) e ∙ blank j (omega arith)
+    pub left_leave : Left (m + 1) t
+    left_leave j h = left j (omega arith)
 
-    module _ (done : Done m t) (c : ℕ) (told : c ≡ count m) where
-      pub done_leave : (after : List ℕ) → after ≡ t → (c ≡ f → ⊥) → Done (m + 1) after
-      unfolding is_sized
-      done_leave after e d =
-          let here = blank m (omega arith) ∙ sym (ne_eqb (count m) f (λ (q : count m ≡ f). d (told ∙ q))) in
-          rw e (below_more (λ (j : ℕ). flagged t j ≡ eqb (count j) f) m done here)
+    module _ (inside : m < 64 * length t) (after : List ℕ) (put : after ≡ with_flag t m) where
+      at : (j : ℕ) → flagged after j ≡ (eqb j m || flagged t j)
+      at j = ap (λ (x : List ℕ). flagged x j) put ∙ flagged_with t m j inside
 
-      module _ (inside : m < 64 * length t) (after : List ℕ) (put : after ≡ with_flag t m) where
-        at : (j : ℕ) → flagged after j ≡ (eqb j m || flagged t j)
-        at j = ap (λ (x : List ℕ). flagged x j) put ∙ flagged_with t m j inside
+      elsewhere : (j : ℕ) → (j ≡ m → ⊥) → flagged after j ≡ flagged t j
+      elsewhere j d = at j ∙ rw (ne_eqb j m d)
 
-        elsewhere : (j : ℕ) → (j ≡ m → ⊥) → flagged after j ≡ flagged t j
-        elsewhere j d = at j ∙ rw (ne_eqb j m d)
+      pub done_put : g m ≡ true → Done (m + 1) after
+      done_put e =
+          below_more (λ (j : ℕ). flagged after j ≡ (g j || flagged before j)) m (λ j h. elsewhere j (λ (q : j ≡ m). omega arith) ∙ done j h)
+          (at m ∙ rw (eq-eqb m m refl, e))
 
-        pub done_put : c ≡ f → Done (m + 1) after
-        unfolding is_sized
-        done_put e =
-            below_more (λ (j : ℕ). flagged after j ≡ eqb (count j) f) m (λ j h. elsewhere j (λ (q : j ≡ m). omega arith) ∙ done j h)
-            (at m ∙ rw (eq-eqb m m refl, eq-eqb (count m) f (sym told ∙ e)))
+      pub left_put : Left (m + 1) after
+      left_put j h = elsewhere j (λ (q : j ≡ m). omega arith) ∙ left j (omega arith)
 
-        pub blank_put : Blank (m + 1) after
-        blank_put j h = elsewhere j (λ (q : j ≡ m). omega arith) ∙ blank j (omega arith)
+-- ---- the test of `mark_sized`: c is what `bitmap::count` returned
+pub sized : (f m c : ℕ) → c ≡ count m → c ≡ f → is_sized f m ≡ true
+unfolding is_sized
+sized f m c told e = eq-eqb (count m) f (sym told ∙ e)
+
+pub not_sized : (f m c : ℕ) → c ≡ count m → (c ≡ f → ⊥) → is_sized f m ≡ false
+unfolding is_sized
+not_sized f m c told d = ne_eqb (count m) f (λ (q : count m ≡ f). d (told ∙ q))
 
 -- ---- one more mask of a list
-any_append : (p : ℕ → Bool) (xs ys : List ℕ) → any p (xs ++ ys) ≡ (any p xs || any p ys)
+any_append : (p : ℕ → Bool) (xs ys : List ℕ) → list_any p (xs ++ ys) ≡ (list_any p xs || list_any p ys)
 any_append p [] ys = refl
 any_append p (x ∷ xs) ys = go (p x) (any_append p xs ys)
   where
-    go : (b : Bool) → any p (xs ++ ys) ≡ (any p xs || any p ys) → (b || any p (xs ++ ys)) ≡ (b || any p xs || any p ys)
+    go : (b : Bool) → list_any p (xs ++ ys) ≡ (list_any p xs || list_any p ys) → (b || list_any p (xs ++ ys)) ≡ (b || list_any p xs || list_any p ys)
     go true e = refl
     go false e = e
 
 pub among_more : (ds : List ℕ) (i m : ℕ) → i < length ds → is_among (take (i + 1) ds) m ≡ (eqb m (get_or ds i 0) && true || is_among (take i ds) m)
 unfolding is_among
 among_more ds i m h =
-    ap (λ (k : ℕ). any (eqb m) (take k ds)) (add-one i) ∙ ap (any (eqb m)) (take-suc ds i 0 h) ∙ any_append (eqb m) (take i ds) (get_or ds i 0 ∷ [])
-    ∙ go (any (eqb m) (take i ds)) (eqb m (get_or ds i 0))
+    ap (λ (k : ℕ). list_any (eqb m) (take k ds)) (add-one i) ∙ ap (list_any (eqb m)) (take-suc ds i 0 h) ∙ any_append (eqb m) (take i ds) (get_or ds i 0 ∷ [])
+    ∙ go (list_any (eqb m) (take i ds)) (eqb m (get_or ds i 0))
   where
     go : (x y : Bool) → (x || (y || false)) ≡ (y && true || x)
     go true true = refl

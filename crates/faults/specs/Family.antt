@@ -2,7 +2,7 @@
 use Rattle.std.specs.Prelude.{ℕ, ◌/◌, ◌%◌, Bool, cond, not, ◌&&◌, ◌||◌, List, [], ◌∷◌, eqb, Float}
 use Rattle.std.specs.Float.{binary64}
 use Rattle.std.specs.Float.Ieee.{mul, le}
-use Rattle.lists.specs.All.{any}
+use Rattle.std.specs.List.{list_any}
 use Rattle.bitmap.specs.Mask.{count}
 use Rattle.floats.specs.Floats.{one}
 use Rattle.profiles.specs.declared.Profile.{Profile}
@@ -23,7 +23,7 @@ is_sized f m = eqb (count m) f
 
 -- one of the masks of a list
 unfoldable pub is_among : List ℕ → ℕ → Bool
-is_among ds m = any (eqb m) ds
+is_among ds m = list_any (eqb m) ds
 
 -- the sets of exactly f replicas, the domains ds, and, where probabilities are known, the probable sets
 unfoldable pub family_of : ℕ → List ℕ → Bool → List Float → Float → ℕ → Bool

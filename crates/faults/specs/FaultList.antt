@@ -1,18 +1,16 @@
 -- The fault list: its refusals, its answer and its words. Assumes nothing.
 use Rattle.std.specs.Prelude.{ℕ, ◌≤◌, ◌≡◌, Bool, true, List, [], ◌∷◌, ◌++◌, leb, length}
-use Rattle.lists.specs.All.{all}
+use Rattle.std.specs.List.{list_all}
 use Rattle.lists.specs.Below.{front}
 use Rattle.bitmap.specs.Mask.{all_below}
 use Rattle.refusals.specs.Numbers.{POPULATION, TOLERANCE, EVERY_REPLICA, ROOM}
 use Rattle.refusals.specs.First.{Case, unless, first_of}
-use Rattle.refusals.specs.Outcome.{Outcome, refused, accepted, outcome, written}
+use Rattle.refusals.specs.Outcome.{Outcome, outcome, written}
 use Rattle.refusals.specs.Limits.{is_population, is_tolerance, is_mask}
 use Rattle.floats.specs.Floats.{is_probability}
 use Rattle.profiles.specs.declared.Profile.{Profile}
 use Rattle.profiles.specs.Profile.{has_probs, domains_of, probs_of, profile_cases}
 use Rattle.maximal.specs.Maximal.{maximals}
-use Rattle.faults.specs.declared.Listed.{Listed}
-use Rattle.faults.specs.declared.Listed.TheVariants.{Refused, Count}
 use Rattle.faults.specs.Family.{family}
 
 -- ---- the entry
@@ -28,11 +26,6 @@ list_cases g n room = (g (all_below n), EVERY_REPLICA) ∷ unless (leb (length (
 unfoldable pub fault_refusal : ℕ → ℕ → Profile → ℕ → ℕ
 fault_refusal n f p room = first_of (input_cases n f p ++ list_cases (family n f p) n room)
 
--- what an answer is: the number that refuses, or the count of maximal sets
-abbrev pub answer : Listed → Outcome ℕ
-answer (Refused k) = refused k
-answer (Count c) = accepted c
-
 unfoldable pub fault_list_of : ℕ → ℕ → Profile → ℕ → Outcome ℕ
 fault_list_of n f p room = outcome (fault_refusal n f p room) (length (maximals (family n f p) n))
 
@@ -45,8 +38,8 @@ fault_words n f p list = written (fault_refusal n f p (length list)) (front (max
 -- what an unrefused profile is: at most 64 domains, each of members below n, and probabilities where it has them
 pub record Accepted (n : ℕ) (p : Profile) : Type 0 where
   pub counted : p.domain_count ≤ 64
-  pub members : all (is_mask n) (domains_of p) ≡ true
-  pub chances : has_probs p ≡ true → all is_probability (probs_of n p) ≡ true
+  pub members : list_all (is_mask n) (domains_of p) ≡ true
+  pub chances : has_probs p ≡ true → list_all is_probability (probs_of n p) ≡ true
 
 -- what listing the maximal sets of any family g comes to, and what it leaves in the list
 unfoldable pub list_answer : (ℕ → Bool) → ℕ → ℕ → Outcome ℕ

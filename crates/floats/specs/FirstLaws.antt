@@ -1,6 +1,6 @@
 -- The first float in total order that passes a test is the least that passes, found in one pass, and what that pass need test. Assumes nothing.
 use Rattle.std.specs.Prelude.{◌≡◌, refl, List, Bool, true, false, not, cond, ◌&&◌, T, Float}
-use Rattle.std.proofs.Math.Option.{Option, none, some}
+use Rattle.std.specs.Prelude.{Option, None, Some}
 use Rattle.std.specs.Float.{binary64}
 use Rattle.std.specs.Float.Ieee.{fits}
 use Rattle.lists.specs.First.{first_that, better_by, least_that}
@@ -17,12 +17,12 @@ pub first_is_least : (t : Float → Bool) (xs : List Float) → first_that t (so
 first_is_least t xs = FirstLaws.first_is_least total_le total trans t xs
 
 -- one more element: it is taken if it passes and stands before what was found, so only then need it be tested
-pub taken_means : (t : Bool) (best : Option Float) (x : Float) → cond t (better_by total_le best x) best ≡ cond (precedes x best && t) (some x) best
-taken_means true none x = refl
-taken_means false none x = refl
-taken_means t (some b) x = go t (total_le b x)
+pub taken_means : (t : Bool) (best : Option Float) (x : Float) → cond t (better_by total_le best x) best ≡ cond (precedes x best && t) (Some x) best
+taken_means true None x = refl
+taken_means false None x = refl
+taken_means t (Some b) x = go t (total_le b x)
   where
-    go : (t v : Bool) → cond t (cond v (some b) (some x)) (some b) ≡ cond (not v && t) (some x) (some b)
+    go : (t v : Bool) → cond t (cond v (Some b) (Some x)) (Some b) ≡ cond (not v && t) (Some x) (Some b)
     go true true = refl
     go true false = refl
     go false true = refl

@@ -1,10 +1,8 @@
 -- What is said of a float: whether it is finite, where it stands in total order, whether it is a probability. Assumes nothing.
 use Rattle.std.specs.Prelude.{ℕ, ◌*◌, ◌≡◌, Bool, true, false, not, ◌&&◌, ◌||◌, cond, pos, T, leb, Float}
-use Rattle.std.proofs.Math.Option.{Option, none, some}
+use Rattle.std.specs.Prelude.{Option, None, Some}
 use Rattle.std.specs.Float.{nan, inf, fin, binary64}
 use Rattle.std.specs.Float.Ieee.{fits, up, down, is_nan, le}
-use Rattle.floats.specs.declared.Found.{Found}
-use Rattle.floats.specs.declared.Found.TheVariants.{Nothing, At}
 
 -- +0 and 1
 abbrev pub plus_zero : Float
@@ -56,12 +54,7 @@ pub record Fine (x : Float) : Type 0 where
   pub finite : is_finite x ≡ true
   pub above : le plus_zero x ≡ true
 
--- what a search has found
-abbrev pub found : Found → Option Float
-found Nothing = none
-found (At x) = some x
-
--- x stands before what was found, or nothing was
+-- x stands before what a search has found so far, or it has found nothing
 abbrev pub precedes : Float → Option Float → Bool
-precedes x none = true
-precedes x (some b) = not (total_le b x)
+precedes x None = true
+precedes x (Some b) = not (total_le b x)

@@ -1,26 +1,51 @@
 -- How the parts of the walk come to what is defined. The premises of each law are the fields of a need's record. Assumes nothing.
-use mathlib.Core.Path.{◌≡◌, sym, ap, ◌∙◌}
-use mathlib.Core.Logic.{inl, inr}
-use mathlib.Core.Bool.{Bool, true, false, not}
+use mathlib.Core.Path.{◌≡◌, refl, sym, ap, ◌∙◌}
+use mathlib.Core.Logic.{inl}
+use mathlib.Core.Bool.{Bool, true, false, not, ◌&&◌}
 use mathlib.Core.List.{List, [], ◌∷◌, foldl, foldl-append}
 use Prim.Native.Nat.{ℕ, ◌+◌, ◌-◌, ◌*◌, ◌%◌, ◌^◌, ◌≤◌, ◌<◌}
-use native.Mathlib.Nat.{mod-lt}
+use native.Mathlib.Decide.{ℕ_discrete}
 use native.Mathlib.Omega.{arith}
-use borrow.Author.Tests.{eq-eqb, ne_eqb, not-true, not-false}
+use Rattle.std.proofs.Math.Bool.{and-eq-true_iff}
+use borrow.Author.Tests.{eqb-true, eq-eqb, ne_eqb}
 use lib.Bits.{bit_or}
 use lib.Dec.{leb, eqb}
-use lib.ListN.{length, set, replicate}
+use lib.ListN.{length, get_or, set, replicate}
 use Rattle.lists.proofs.BelowLoops.{taken_below, taken_none, taken_yes, taken_no, taken_still}
-use Rattle.bitmap.specs.Mask.{has_bit, with_bit, count}
-use Rattle.rows.specs.Row.{row_in, rows_in, spelled, with_row}
-use Rattle.rows.proofs.WordLaws.{Words}
+use Rattle.bitmap.specs.Mask.{with_bit, count}
+use Rattle.rows.specs.declared.Row.{Row}
+use Rattle.rows.specs.Row.{words, row_of, row_in, rows_in, spelled, with_row}
+use Rattle.rows.proofs.WordLaws.{Words, value_inj}
 use Rattle.rows.proofs.TableLaws.{rows_at, rows_with, rows_none, rows_spelled}
 use Rattle.refusals.specs.Outcome.{accepted}
-use Rattle.refusals.proofs.Outcomes.{is_accepted}
 use Rattle.gossip.specs.Gossip.{Walked, fresh, met, visit, ring, round, turns, walk, gossip_refusal, gossip_of, exclusions_left}
 use Rattle.gossip.proofs.RefusalLaws.{gossip_sound}
 use Rattle.gossip.proofs.TurnLaws.{source_last, source_own}
-use Rattle.gossip.proofs.WalkLaws.{visit_passed, visit_met}
+use Rattle.gossip.proofs.WalkLaws.{visit_passed}
+
+-- ---- two rows are the same exactly if their words are
+module _ (a b : Row) (h : Words (words a)) (g : Words (words b)) where
+  pub same_row : (eqb a.w0 b.w0 && (eqb a.w1 b.w1 && (eqb a.w2 b.w2 && eqb a.w3 b.w3))) ≡ eqb (row_of a) (row_of b)
+  same_row = go (ℕ_discrete (row_of a) (row_of b))
+    where
+      word : row_of a ≡ row_of b → (j : ℕ) → get_or (words a) j 0 ≡ get_or (words b) j 0
+      word e j = ap (λ (l : List ℕ). get_or l j 0) (value_inj (words a) (words b) h g refl e)
+
+      row : (eqb a.w0 b.w0 && (eqb a.w1 b.w1 && (eqb a.w2 b.w2 && eqb a.w3 b.w3))) ≡ true → row_of a ≡ row_of b
+      row t =
+          let x = (and-eq-true_iff (eqb a.w0 b.w0) (eqb a.w1 b.w1 && (eqb a.w2 b.w2 && eqb a.w3 b.w3))).0 t in
+          let y = (and-eq-true_iff (eqb a.w1 b.w1) (eqb a.w2 b.w2 && eqb a.w3 b.w3)).0 x.1 in
+          let z = (and-eq-true_iff (eqb a.w2 b.w2) (eqb a.w3 b.w3)).0 y.1 in
+          rw (eqb-true a.w0 b.w0 x.0, eqb-true a.w1 b.w1 y.0, eqb-true a.w2 b.w2 z.0, eqb-true a.w3 b.w3 z.1) refl
+
+      false_if : (t : Bool) → (t ≡ true → ⊥) → t ≡ false
+      false_if true n = absurd (n refl)
+      false_if false n = refl
+
+      go : Dec (row_of a ≡ row_of b) → (eqb a.w0 b.w0 && (eqb a.w1 b.w1 && (eqb a.w2 b.w2 && eqb a.w3 b.w3))) ≡ eqb (row_of a) (row_of b)
+      go (yes e) =
+          rw (eq-eqb a.w0 b.w0 (word e 0), eq-eqb a.w1 b.w1 (word e 1), eq-eqb a.w2 b.w2 (word e 2), eq-eqb a.w3 b.w3 (word e 3)) (sym (eq-eqb (row_of a) (row_of b) e))
+      go (no n) = false_if _ (λ t. n (row t)) ∙ sym (ne_eqb (row_of a) (row_of b) n)
 
 -- ---- `meet`: a is what is then available, k its count
 module _ (d row : ℕ) (w : Walked) (p a k : ℕ) (e : a ≡ bit_or w.available row) (q : k ≡ count a) where
@@ -37,24 +62,7 @@ module _ (d row : ℕ) (w : Walked) (p a k : ℕ) (e : a ≡ bit_or w.available 
       let y : rows_in now ≡ set w.exclusions p w.available = ap rows_in put ∙ rows_with l p w.available room small ∙ ap (λ (r : List ℕ). set r p w.available) x in
       rw (h, q, e, z, y)
 
--- ---- `visit`: r is whether p is alive
-module _ (d : ℕ) (row : ℕ → ℕ) (alive : ℕ) (w : Walked) (p : ℕ) where
-  pub visit_over : w.over ≡ true → w ≡ visit d row alive w p
-  visit_over o = sym (visit_passed d row alive w p (inl o))
-
-  module _ (r : Bool) (q : r ≡ has_bit alive p) where
-    pub visit_dead : not r ≡ true → w ≡ visit d row alive w p
-    visit_dead t = sym (visit_passed d row alive w p (inr (sym q ∙ not-true r t)))
-
-    pub visit_live : (v : Walked) (x : ℕ) → w.over ≡ false → not r ≡ false → x ≡ row p → v ≡ met d x w p → v ≡ visit d row alive w p
-    visit_live v x o t y h = h ∙ ap (λ (m : ℕ). met d m w p) y ∙ sym (visit_met d row alive w p o (sym q ∙ not-false r t))
-
--- ---- `walk_ring`: each place of the ring is one of the rows
-pub place_below : (x n : ℕ) → 0 < n → n ≤ 16 → x % n < 64
-place_below x n z h = omega (arith, mod-lt x z)
-
-pub place_inside : (x n k : ℕ) → 0 < n → k ≡ n * 4 → x % n * 4 + 4 ≤ k
-place_inside x n k z e = omega (arith, mod-lt x z)
+-- ---- `walk_ring`
 
 -- w is how far it has come before the place j of the ring
 module _ (n own source d : ℕ) (row : ℕ → ℕ) (alive : ℕ) (start : Walked) where
@@ -74,21 +82,23 @@ module _ (n own source d : ℕ) (row : ℕ → ℕ) (alive : ℕ) (start : Walke
   ring_starts = taken_none step start other place
 
   module _ (j : ℕ) (w : Walked) (e : w ≡ ring_to j) where
-    pub ring_source : place j ≡ source → w ≡ ring_to (j + 1)
-    ring_source h = e ∙ sym (taken_no step start other place j (ap not (eq-eqb (place j) source h)))
+    -- b is whether the peer at the place is another one than the source
+    module _ (b : Bool) (q : b ≡ other (place j)) where
+      pub ring_source : b ≡ false → w ≡ ring_to (j + 1)
+      ring_source h = e ∙ sym (taken_no step start other place j (sym q ∙ h))
 
-    pub ring_other : (v : Walked) → (place j ≡ source → ⊥) → v ≡ visit d row alive w (place j) → v ≡ ring_to (j + 1)
-    ring_other v h q = q ∙ ap (λ (x : Walked). step x (place j)) e ∙ sym (taken_yes step start other place j (ap not (ne_eqb (place j) source h)))
+      pub ring_other : (v : Walked) → b ≡ true → v ≡ visit d row alive w (place j) → v ≡ ring_to (j + 1)
+      ring_other v h x = x ∙ ap (λ (y : Walked). step y (place j)) e ∙ sym (taken_yes step start other place j (sym q ∙ h))
 
     -- what is over stays as it is
-    pub ring_over : j + 1 ≤ n → w.over ≡ true → w ≡ foldl (visit d row alive) start (round n own source)
+    pub ring_over : j < n - 1 → w.over ≡ true → w ≡ foldl (visit d row alive) start (round n own source)
     unfolding round ring
     ring_over h o =
         e ∙ sym (taken_still step start other place j (n - 1) (omega arith) (λ p. visit_passed d row alive (ring_to j) p (inl (ap (λ (x : Walked). x.over) (sym e) ∙ o))))
 
-    pub ring_done : j + 1 ≤ n → n ≤ j + 1 → w ≡ foldl (visit d row alive) start (round n own source)
+    pub ring_done : n - 1 ≤ j → j ≤ n - 1 → w ≡ foldl (visit d row alive) start (round n own source)
     unfolding round ring
-    ring_done h g = let q : j ≡ n - 1 = omega arith in e ∙ ap ring_to q
+    ring_done g h = let q : j ≡ n - 1 = omega arith in e ∙ ap ring_to q
 
 -- ---- `walk`: w is how far it has come once round
 module _ (n own source d : ℕ) (row : ℕ → ℕ) (alive : ℕ) (start w : Walked) (e : w ≡ foldl (visit d row alive) start (round n own source)) where
@@ -100,23 +110,23 @@ module _ (n own source d : ℕ) (row : ℕ → ℕ) (alive : ℕ) (start w : Wal
       rw (source_last n own source h, foldl-append (visit d row alive) start (round n own source) (source ∷ [])) (q ∙ ap (λ (x : Walked). visit d row alive x source) e)
 
 -- ---- `gossip_targets_excl`: the table is filled with 0, and then walked
-module _ (n own source d w available : ℕ) (table : List ℕ) (alive : ℕ) (exclusions : List ℕ) (got : ℕ)
-    (e : got ≡ gossip_refusal n own source d w available table alive (length exclusions)) (z : got ≡ 0)
+module _ (n own source d w available : ℕ) (table : List ℕ) (alive : ℕ) (exclusions : List ℕ)
+    (no : gossip_refusal n own source d w available table alive (length exclusions) ≡ 0)
     (zeros : List ℕ) (f : zeros ≡ replicate (length exclusions) 0)
     (end : Walked) (q : end ≡ foldl (visit d (row_in table) alive) (fresh available (rows_in zeros)) (turns n own source)) where
   walks : end ≡ walk n own source d available (rows_in table) alive
   unfolding walk
   walks =
-      let s = (gossip_sound n own source d w available table alive (length exclusions)).0 (sym e ∙ z) in
+      let s = (gossip_sound n own source d w available table alive (length exclusions)).0 no in
       let r : rows_in zeros ≡ replicate n 0 = ap rows_in (f ∙ ap (λ (k : ℕ). replicate k 0) s.each_exclusion) ∙ rows_none n in
       q ∙ ap (λ (l : List ℕ). foldl (visit d (row_in table) alive) (fresh available l) (turns n own source)) r
       ∙ (λ i. foldl (visit d (λ p. sym (rows_at table p) i) alive) (fresh available (replicate n 0)) (turns n own source))
 
   pub asks : accepted end.asked ≡ gossip_of n own source d w available table alive (length exclusions)
   unfolding gossip_of
-  asks = is_accepted _ got _ end.asked e z (ap (λ (x : Walked). x.asked) walks)
+  asks = rw no (ap (λ (x : Walked). accepted x.asked) walks)
 
   -- l is the table as the walk leaves it
   pub excludes : (l : List ℕ) → rows_in l ≡ end.exclusions → Words l → length l ≡ n * 4 → l ≡ exclusions_left n own source d w available table alive exclusions
   unfolding exclusions_left
-  excludes l x words k = rw (sym e ∙ z) (sym (rows_spelled l n words k) ∙ ap spelled (x ∙ ap (λ (v : Walked). v.exclusions) walks))
+  excludes l x words k = rw no (sym (rows_spelled l n words k) ∙ ap spelled (x ∙ ap (λ (v : Walked). v.exclusions) walks))

@@ -2,16 +2,14 @@
 use Rattle.std.specs.Prelude.{Bool, false, cond, not, ◌||◌, ℕ, ◌+◌, ◌-◌, ◌%◌, leb, eqb, length, replicate, set}
 use mathlib.Core.List.{List, [], ◌∷◌, ◌++◌, foldl}
 use Rattle.std.specs.Int.Bits.{bit_or}
-use Rattle.lists.specs.All.{passing}
+use Rattle.std.specs.List.{filter}
 use Rattle.lists.specs.Below.{each_below}
 use Rattle.bitmap.specs.Mask.{has_bit, with_bit, count, nth_row}
 use Rattle.rows.specs.Row.{row_of, rows_in, spelled}
 use Rattle.refusals.specs.Numbers.{POPULATION, REPLICA, SHARDS, MASK, TABLE}
 use Rattle.refusals.specs.First.{Case, unless, first_of}
-use Rattle.refusals.specs.Outcome.{Outcome, refused, accepted, outcome, written}
+use Rattle.refusals.specs.Outcome.{Outcome, outcome, written}
 use Rattle.refusals.specs.Limits.{is_population, is_replica, is_shards, is_mask, is_row, are_rows, is_table}
-use Rattle.gossip.specs.declared.Gossip.{Gossip}
-use Rattle.gossip.specs.declared.Gossip.TheVariants.{Refused, Asked}
 use Rattle.gossip.specs.declared.Progress.{Progress}
 
 -- ---- whose turn it is
@@ -22,7 +20,7 @@ ring n own = each_below (λ (j : ℕ). (own + 1 + j) % n) (n - 1)
 
 -- without the source
 unfoldable pub round : ℕ → ℕ → ℕ → List ℕ
-round n own source = passing (λ (p : ℕ). not (eqb p source)) (ring n own)
+round n own source = filter (λ (p : ℕ). not (eqb p source)) (ring n own)
 
 -- which is the last, unless it is oneself
 unfoldable pub turns : ℕ → ℕ → ℕ → List ℕ
@@ -84,11 +82,6 @@ gossip_cases n own source d w available rows alive exclusions =
 
 unfoldable pub gossip_refusal : ℕ → ℕ → ℕ → ℕ → ℕ → ℕ → List ℕ → ℕ → ℕ → ℕ
 gossip_refusal n own source d w available rows alive exclusions = first_of (gossip_cases n own source d w available rows alive exclusions)
-
--- what an answer is: the number that refuses, or the mask of those asked
-abbrev pub gossiped : Gossip → Outcome ℕ
-gossiped (Refused k) = refused k
-gossiped (Asked m) = accepted m
 
 unfoldable pub gossip_of : ℕ → ℕ → ℕ → ℕ → ℕ → ℕ → List ℕ → ℕ → ℕ → Outcome ℕ
 gossip_of n own source d w available rows alive exclusions =

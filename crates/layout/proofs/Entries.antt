@@ -1,17 +1,15 @@
--- What the entries rest on: the check of the shards, whose width is what a call returned; a part of a local table that is lent; and how the answers come
--- about. The premises are what a need's record holds. Assumes nothing.
+-- What the entries rest on: a part of a local table that is lent, and how the answers come about where nothing refuses. The premises are what a need's
+-- record holds. Assumes nothing.
 use mathlib.Core.Path.{◌≡◌, sym, ap, ap₂, subst, ◌∙◌}
-use mathlib.Core.Bool.{Bool, true, false, cond, not}
+use mathlib.Core.Bool.{Bool}
 use mathlib.Core.List.{List}
 use Prim.Native.Nat.{ℕ, ◌*◌, ◌^◌, ◌≤◌, ◌<◌}
 use native.Mathlib.Omega.{arith}
 use lib.ListN.{length}
 use Rattle.lists.specs.Below.{front}
 use Rattle.lists.proofs.BelowLoops.{front_all}
-use Rattle.refusals.specs.Limits.{is_shards}
 use Rattle.refusals.specs.Outcome.{accepted}
-use Rattle.refusals.proofs.Checks.{checks, call_passes, call_fails}
-use Rattle.refusals.proofs.Outcomes.{is_accepted}
+use Rattle.refusals.proofs.Outcomes.{ok_outcome}
 use Rattle.rows.specs.Row.{row_in, spelled}
 use Rattle.rows.proofs.TableLaws.{spelled_length}
 use Rattle.coverage.specs.Coverage.{RowsBelow, commits}
@@ -19,16 +17,6 @@ use Rattle.layout.specs.declared.TotalShards.{TotalShards}
 use Rattle.layout.specs.Layout.{Fit, bound, width_of, rows_of, heard_loads, rows_refusal, rows_written, commits_refusal, layout_commits_of, trial_written}
 use Rattle.layout.proofs.LayoutLaws.{rows_length, heard_length, spelled_below, spelled_commits}
 use Rattle.layout.proofs.RefusalLaws.{rows_sound, trial_sound}
-
--- ---- the shards, tested with b, which is the width
-module _ (d w b : ℕ) (r : Bool) where
-  pub shards_pass : (k x rest : ℕ) → b ≡ w → r ≡ is_shards d b → not r ≡ false → x ≡ rest → x ≡ cond (not (is_shards d w)) k rest
-  shards_pass k x rest q e t p = call_passes (is_shards d w) r k x rest (e ∙ ap (is_shards d) q) t p
-
-  pub shards_fail : (k rest : ℕ) → b ≡ w → r ≡ is_shards d b → not r ≡ true → k ≡ cond (not (is_shards d w)) k rest
-  shards_fail k rest q e t = call_fails (is_shards d w) r k rest (e ∙ ap (is_shards d) q) t
-
-pub ruleset layout-checks = (checks, shards_pass, shards_fail)
 
 -- ---- rows laid in a table of as many
 pub whole : (d : ℕ) (total : TotalShards) (loads rows : List ℕ) → length rows ≡ length loads * 4 → front (spelled (rows_of d total loads)) rows ≡ spelled (rows_of d total loads)
@@ -42,40 +30,40 @@ laid_below n d total loads h w table e q s l =
     (subst (λ (t : List ℕ). row_in t s < 2 ^ width_of d total loads) (sym q) (spelled_below d total loads h n s l))
 
 -- ---- `layout_rows`
-module _ (n d : ℕ) (total : TotalShards) (loads rows : List ℕ) (got : ℕ) (e : got ≡ rows_refusal n d total (length loads) (length rows)) (z : got ≡ 0) where
+module _ (n d : ℕ) (total : TotalShards) (loads rows : List ℕ) (z : 0 ≡ rows_refusal n d total (length loads) (length rows)) where
   pub rows_written_are : (after : List ℕ) → after ≡ front (spelled (rows_of d total loads)) rows → after ≡ rows_written n d total loads rows
   unfolding rows_written
   rows_written_are after l =
-      let s = (rows_sound n d total (length loads) (length rows)).0 (sym e ∙ z) in
-      rw (sym e ∙ z) (l ∙ whole d total loads rows (omega arith))
+      let s = (rows_sound n d total (length loads) (length rows)).0 (sym z) in
+      rw (sym z) (l ∙ whole d total loads rows (omega arith))
 
 -- ---- `layout_commits`
-pub trial_small : (n quorum d : ℕ) (total : TotalShards) (answered loads : ℕ) (faults : List ℕ) (rows got : ℕ)
-    → got ≡ commits_refusal n quorum d total answered loads faults rows → got ≡ 0 → n ≤ 16
-trial_small n quorum d total answered loads faults rows got e z = ((trial_sound n quorum d total answered loads faults rows).0 (sym e ∙ z)).population.1
+pub trial_small : (n quorum d : ℕ) (total : TotalShards) (answered loads : ℕ) (faults : List ℕ) (rows : ℕ)
+    → 0 ≡ commits_refusal n quorum d total answered loads faults rows → n ≤ 16
+trial_small n quorum d total answered loads faults rows z = ((trial_sound n quorum d total answered loads faults rows).0 (sym z)).population.1
 
 -- where the loads of those that answer were laid
-module _ (n quorum d : ℕ) (total : TotalShards) (answered : ℕ) (loads faults rows : List ℕ) (got : ℕ)
-    (e : got ≡ commits_refusal n quorum d total answered (length loads) faults (length rows)) (z : got ≡ 0)
+module _ (n quorum d : ℕ) (total : TotalShards) (answered : ℕ) (loads faults rows : List ℕ)
+    (z : 0 ≡ commits_refusal n quorum d total answered (length loads) faults (length rows))
     (heard after : List ℕ) (h : heard ≡ heard_loads answered loads) (l : after ≡ front (spelled (rows_of d total heard)) rows) where
   laid_rows : after ≡ spelled (rows_of d total (heard_loads answered loads))
   laid_rows =
-      let s = (trial_sound n quorum d total answered (length loads) faults (length rows)).0 (sym e ∙ z) in
+      let s = (trial_sound n quorum d total answered (length loads) faults (length rows)).0 (sym z) in
       l ∙ ap (λ (x : List ℕ). front (spelled (rows_of d total x)) rows) h ∙ whole d total (heard_loads answered loads) rows (omega (arith, heard_length answered loads))
 
   pub trial_below : (w : ℕ) → w ≡ width_of d total heard → RowsBelow n w (row_in after)
   trial_below w q =
-      laid_below n d total (heard_loads answered loads) ((trial_sound n quorum d total answered (length loads) faults (length rows)).0 (sym e ∙ z)).shards w after
+      laid_below n d total (heard_loads answered loads) ((trial_sound n quorum d total answered (length loads) faults (length rows)).0 (sym z)).shards w after
       (q ∙ ap (width_of d total) h) laid_rows
 
   pub trial_written_is : after ≡ trial_written n quorum d total answered loads faults rows
   unfolding trial_written
-  trial_written_is = rw (sym e ∙ z) laid_rows
+  trial_written_is = rw (sym z) laid_rows
 
   pub trial_says : (w : ℕ) (c : Bool) → w ≡ width_of d total heard → c ≡ commits n quorum d answered (row_in after) faults
       → accepted (w, c) ≡ layout_commits_of n quorum d total answered loads faults (length rows)
   unfolding layout_commits_of
   trial_says w c q t =
-      is_accepted _ got _ (w, c) e z
+      ok_outcome _ z _ (w, c)
       (ap₂ (λ (x : ℕ) (y : Bool). (x, y)) (q ∙ ap (width_of d total) h) (t ∙ ap (λ (x : List ℕ). commits n quorum d answered (row_in x) faults) laid_rows
-      ∙ spelled_commits d total (heard_loads answered loads) ((trial_sound n quorum d total answered (length loads) faults (length rows)).0 (sym e ∙ z)).shards n quorum answered faults))
+      ∙ spelled_commits d total (heard_loads answered loads) ((trial_sound n quorum d total answered (length loads) faults (length rows)).0 (sym z)).shards n quorum answered faults))

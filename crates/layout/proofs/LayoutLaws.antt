@@ -12,7 +12,7 @@ use Rattle.std.proofs.Math.Pow.{pow_mono, ones_lt}
 use Rattle.std.proofs.Math.Seq.{take-length, take-append-add}
 use Rattle.std.proofs.lemmas.List.{take-append-le}
 use borrow.Author.Tests.{ltb-true, ltb-false, lt-ltb, le-ltb, eq-eqb, ne_eqb}
-use Rattle.lists.specs.All.{all}
+use Rattle.std.specs.List.{list_all}
 use Rattle.lists.specs.AllLaws.{all_means}
 use Rattle.lists.specs.BelowLaws.{each_below_length, each_below_at, each_below_all}
 use Rattle.bitmap.specs.Mask.{bit, count, run, run_modulo, nth_row}
@@ -169,7 +169,7 @@ module _ (d : ℕ) (total : TotalShards) (loads : List ℕ) where
 
   module _ (h : Fit d (bound total)) where
     -- of shards below the width: with `rows_length`, they pass the checks of `covers` for 16 and 17
-    pub rows_below : all (is_row (width_of d total loads)) (rows_of d total loads) ≡ true
+    pub rows_below : list_all (is_row (width_of d total loads)) (rows_of d total loads) ≡ true
     unfolding rows_of
     rows_below =
         let w = width_of d total loads in
@@ -191,7 +191,7 @@ module _ (d : ℕ) (total : TotalShards) (loads : List ℕ) where
     spelled_below n s l =
         table_row_below (width_of d total loads) (spelled (rows_of d total loads))
         ((all_means (is_row (width_of d total loads)) 0 (rows_in (spelled (rows_of d total loads)))).0
-        (ap (all (is_row (width_of d total loads))) (spelled_rows (rows_of d total loads) rows_small) ∙ rows_below)) s
+        (ap (list_all (is_row (width_of d total loads))) (spelled_rows (rows_of d total loads) rows_small) ∙ rows_below)) s
 
     -- and it commits as they do
     pub spelled_commits : (n quorum answered : ℕ) (faults : List ℕ)

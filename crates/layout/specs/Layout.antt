@@ -5,15 +5,12 @@ use Rattle.bitmap.specs.Mask.{has_bit, run, run_modulo, nth_row}
 use Rattle.rows.specs.Row.{spelled}
 use Rattle.refusals.specs.Numbers.{POPULATION, SHARDS, QUORUM, MASK, TABLE}
 use Rattle.refusals.specs.First.{Case, unless, first_of}
-use Rattle.refusals.specs.Outcome.{Outcome, refused, accepted, outcome, written}
+use Rattle.refusals.specs.Outcome.{Outcome, outcome, written}
 use Rattle.refusals.specs.Limits.{most_shards, is_population, is_shards, is_quorum, is_mask, is_table, is_fault_list}
 use Rattle.coverage.specs.Coverage.{commits}
 use Rattle.layout.specs.declared.TotalShards.{TotalShards}
 use Rattle.layout.specs.declared.TotalShards.TheVariants.{Exactly, AtMost}
-use Rattle.layout.specs.declared.Laid.{Laid}
-use Rattle.layout.specs.declared.Laid.TheVariants as Laying
-use Rattle.layout.specs.declared.Tested.{Tested}
-use Rattle.layout.specs.declared.Tested.TheVariants as Testing
+use Rattle.layout.specs.declared.Trial.{Trial}
 
 -- ---- the width
 
@@ -97,14 +94,9 @@ commits_cases n quorum d total answered loads faults rows =
 unfoldable pub commits_refusal : ℕ → ℕ → ℕ → TotalShards → ℕ → ℕ → List ℕ → ℕ → ℕ
 commits_refusal n quorum d total answered loads faults rows = first_of (commits_cases n quorum d total answered loads faults rows)
 
--- what the answers are: the number that refuses, or the width, and for the test whether it commits
-abbrev pub laid : Laid → Outcome ℕ
-laid (Laying.Refused k) = refused k
-laid (Laying.Width w) = accepted w
-
-abbrev pub tested : Tested → Outcome (ℕ × Bool)
-tested (Testing.Refused k) = refused k
-tested (Testing.Layout w c) = accepted (w, c)
+-- what a test says: the width, and whether the layout commits
+abbrev pub tested : Trial → ℕ × Bool
+tested t = (t.width, t.commits)
 
 unfoldable pub layout_rows_of : ℕ → ℕ → TotalShards → List ℕ → ℕ → Outcome ℕ
 layout_rows_of n d total loads rows = outcome (rows_refusal n d total (length loads) rows) (width_of d total loads)

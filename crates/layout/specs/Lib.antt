@@ -1,2 +1,3 @@
 -- Layouts of loads, and what they mean.
 pub mod Layout
+pub mod Rule

@@ -1,15 +1,22 @@
 // Layouts: the rows that given loads come to, and whether replies from those that answer commit (layout_rows, layout_commits).
 #![tactic(auto)]
 
-ghost use Rattle.std.specs.Prelude.{◌≡◌, cond, ◌*◌, ◌<◌, ◌≤◌, min, max, length};
+ghost use Rattle.std.specs.Prelude.{◌≡◌, cond, ◌*◌, ◌≤◌, length};
 ghost use Rattle.lists.specs.Below.{each_below, front};
 ghost use Rattle.bitmap.specs.Mask.{has_bit};
 ghost use Rattle.rows.specs.Row.{row_of, spelled};
 ghost use Rattle.refusals.specs.Limits.{most_shards};
-ghost use Rattle.layout.specs.Layout.{Fit, bound, dealt, partial, width_of, row_for, row_at, rows_of, heard_loads, layout_commits, rows_refusal, commits_refusal, laid, tested, layout_rows_of, layout_commits_of, rows_written, trial_written};
+ghost use Rattle.refusals.specs.Refused.{refusal_of, outcome_of, outcome_by};
+ghost use Rattle.layout.specs.Layout.{Fit, bound, dealt, partial, width_of, row_for, row_at, rows_of, heard_loads, rows_refusal, commits_refusal, tested, layout_rows_of, layout_commits_of, rows_written, trial_written};
 
 use bitmap::ReplicaId;
-use rows::{Row, ShardId};
+use coverage::Holdings;
+use refusals::{Refusal, unless};
+use rows::{Row, ShardId, ShardSet};
+
+mod rule;
+
+pub use rule::CommitRule;
 
 // The number of shards to lay rows out in: exactly that of an existing code scheme, or at most a bound for a new one.
 #[derive(Clone, Copy)]
@@ -18,41 +25,45 @@ pub enum TotalShards {
     AtMost(usize),
 }
 
-// The width of a layout whose rows are in the lent table.
-#[derive(Clone, Copy)]
-pub enum Laid {
-    Refused(u8),
-    Width(usize),
+impl TotalShards {
+    // The exact width, or its ceiling.
+    pub fn bound(self) -> usize
+        ensures { result ≡ bound self }
+    {
+        match self {
+            TotalShards::Exactly(w) => w,
+            TotalShards::AtMost(w) => w,
+        }
+    }
 }
 
-// The same, and whether it commits.
+// A layout that was tested: its width, and whether replies from those that answer commit. Its rows are in the lent table.
 #[derive(Clone, Copy)]
-pub enum Tested {
-    Refused(u8),
-    Layout { width: usize, commits: bool },
+pub struct Trial {
+    pub width: usize,
+    pub commits: bool,
 }
 
 // The rows of n loads, written to the lent table: a full row gets the data shards, the others disjoint shards in order, wrapping round at
 // the width.
+#[tactic(auto, using(refusals::proofs::Entered::entered), unfolding(crate::specs::Layout::layout_rows_of, crate::specs::Layout::rows_written))]
 pub fn layout_rows(
     n: usize,
     d: usize,
     total: TotalShards,
     loads: &[usize],
     rows: &mut [u64],
-) -> Laid
-    ensures answer { laid result ≡ layout_rows_of n d total loads.now (length rows.old) }
+) -> Result<usize, Refusal>
+    ensures answer { outcome_of result ≡ layout_rows_of n d total loads.now (length rows.old) }
     ensures words { rows.new ≡ rows_written n d total loads.now rows.old }
 {
-    let no = rows_refusal(n, d, total, loads.len(), rows.len());
-    if no != 0 {
-        return Laid::Refused(no);
-    }
-    Laid::Width(lay(d, total, loads, rows))
+    check_rows(n, d, total, loads.len(), rows.len())?;
+    Ok(lay(d, total, loads, rows))
 }
 
 // The same of the loads of those that answer, and whether replies from these commit: there are at least a quorum of them, and they pass the
 // commit rule.
+#[tactic(auto, using(refusals::proofs::Entered::entered), unfolding(crate::specs::Layout::layout_commits_of, crate::specs::Layout::trial_written))]
 pub fn layout_commits(
     n: usize,
     quorum: usize,
@@ -62,11 +73,11 @@ pub fn layout_commits(
     loads: &[usize],
     faults: &[u64],
     rows: &mut [u64],
-) -> Tested
-    ensures answer { tested result ≡ layout_commits_of n quorum d total answered loads.now faults.now (length rows.old) }
+) -> Result<Trial, Refusal>
+    ensures answer { outcome_by tested result ≡ layout_commits_of n quorum d total answered loads.now faults.now (length rows.old) }
     ensures words { rows.new ≡ trial_written n quorum d total answered loads.now faults.now rows.old }
 {
-    let no = commits_refusal(
+    check_commits(
         n,
         quorum,
         d,
@@ -75,15 +86,18 @@ pub fn layout_commits(
         loads.len(),
         faults,
         rows.len(),
-    );
-    if no != 0 {
-        return Tested::Refused(no);
-    }
+    )?;
     let mut heard = [0usize; 16];
     heard_loads(answered, loads, &mut heard[..n]);
     let width = lay(d, total, &heard[..n], rows);
-    let commits = coverage::commits(n, quorum, d, width, answered, rows, faults);
-    Tested::Layout { width, commits }
+    let holdings = Holdings {
+        population: n,
+        width,
+        heard: answered,
+        rows,
+    };
+    let commits = holdings.commits(quorum, d, faults);
+    Ok(Trial { width, commits })
 }
 
 // Lays the loads out at the front of the table, and gives the width. A part: the shards have been tested, and there are four words for each
@@ -93,49 +107,34 @@ pub fn lay(d: usize, total: TotalShards, loads: &[usize], rows: &mut [u64]) -> u
     ensures width { result ≡ width_of d total loads.now }
     ensures words { rows.new ≡ front (spelled (rows_of d total loads.now)) rows.old }
 {
-    let w = width_of(d, total, loads);
-    deal(d, w, loads, rows);
-    w
+    let width = width_of(d, total, loads);
+    let layout = Layout {
+        data_shards: d,
+        width,
+        loads,
+    };
+    layout.deal(rows);
+    width
 }
 
-// Whether the layout of the loads commits, where those of the mask answer. A part, as lay.
-pub fn commits(
+#[tactic(auto, unfolding(crate::specs::Layout::rows_refusal))]
+fn check_rows(
     n: usize,
-    quorum: usize,
     d: usize,
     total: TotalShards,
-    answered: u64,
-    faults: &[u64],
-    loads: &[usize],
-) -> bool
-    requires { Fit d (bound total) × (length loads.now ≡ n) × (n ≤ 16) }
-    ensures { result ≡ layout_commits n quorum d total answered faults.now loads.now }
+    loads: usize,
+    rows: usize,
+) -> Result<(), Refusal>
+    ensures { refusal_of result ≡ rows_refusal n d total loads rows }
 {
-    let mut rows = [0u64; 64];
-    let m = n * 4;
-    let width = lay(d, total, loads, &mut rows[..m]);
-    coverage::commits(n, quorum, d, width, answered, &rows[..m], faults)
+    unless(refusals::is_population(n), Refusal::Population)?;
+    unless(refusals::is_shards(d, total.bound()), Refusal::Shards)?;
+    unless(loads == n, Refusal::Table)?;
+    unless(refusals::is_table(n, rows), Refusal::Table)
 }
 
-fn rows_refusal(n: usize, d: usize, total: TotalShards, loads: usize, rows: usize) -> u8
-    ensures { result ≡ rows_refusal n d total loads rows }
-{
-    if !refusals::is_population(n) {
-        return refusals::POPULATION;
-    }
-    if !refusals::is_shards(d, bound(total)) {
-        return refusals::SHARDS;
-    }
-    if loads != n {
-        return refusals::TABLE;
-    }
-    if !refusals::is_table(n, rows) {
-        return refusals::TABLE;
-    }
-    0
-}
-
-fn commits_refusal(
+#[tactic(auto, unfolding(crate::specs::Layout::commits_refusal, refusals::specs::Limits::is_population))]
+fn check_commits(
     n: usize,
     quorum: usize,
     d: usize,
@@ -144,74 +143,33 @@ fn commits_refusal(
     loads: usize,
     faults: &[u64],
     rows: usize,
-) -> u8
-    ensures { result ≡ commits_refusal n quorum d total answered loads faults.now rows }
+) -> Result<(), Refusal>
+    ensures { refusal_of result ≡ commits_refusal n quorum d total answered loads faults.now rows }
 {
-    if !refusals::is_population(n) {
-        return refusals::POPULATION;
-    }
-    if !refusals::is_shards(d, bound(total)) {
-        return refusals::SHARDS;
-    }
-    if !refusals::is_quorum(n, quorum) {
-        return refusals::QUORUM;
-    }
-    if !refusals::is_mask(n, answered) {
-        return refusals::MASK;
-    }
-    if loads != n {
-        return refusals::TABLE;
-    }
-    if !refusals::is_fault_list(n, faults) {
-        return refusals::TABLE;
-    }
-    if !refusals::is_table(n, rows) {
-        return refusals::TABLE;
-    }
-    0
+    unless(refusals::is_population(n), Refusal::Population)?;
+    unless(refusals::is_shards(d, total.bound()), Refusal::Shards)?;
+    unless(refusals::is_quorum(n, quorum), Refusal::Quorum)?;
+    unless(refusals::is_mask(n, answered), Refusal::Mask)?;
+    unless(loads == n, Refusal::Table)?;
+    unless(refusals::is_fault_list(n, faults), Refusal::Table)?;
+    unless(refusals::is_table(n, rows), Refusal::Table)
 }
 
-// The exact width, or its ceiling.
-pub fn bound(total: TotalShards) -> usize
-    ensures { result ≡ bound total }
-{
-    match total {
-        TotalShards::Exactly(w) => w,
-        TotalShards::AtMost(w) => w,
-    }
-}
-
-// The width that the loads are laid out in.
+// The width that the loads are laid out in. For a ceiling the loads below d are summed.
 fn width_of(d: usize, total: TotalShards, loads: &[usize]) -> usize
     requires { (d ≤ most_shards) × (length loads.now ≤ 16) }
     ensures { result ≡ width_of d total loads.now }
 {
     match total {
         TotalShards::Exactly(w) => w,
-        TotalShards::AtMost(w) => within(partial(d, loads), d, w),
+        TotalShards::AtMost(w) => {
+            let mut sum = 0;
+            for k in loads {
+                sum += dealt(d, *k);
+            }
+            sum.max(d).min(w)
+        }
     }
-}
-
-// The larger of the sum and d, and at most w.
-fn within(sum: usize, d: usize, w: usize) -> usize
-    ensures { result ≡ min (max sum d) w }
-{
-    let least = if sum <= d { d } else { sum };
-    if least <= w { least } else { w }
-}
-
-// The loads below d, summed.
-fn partial(d: usize, loads: &[usize]) -> usize
-    requires { (d ≤ most_shards) × (length loads.now ≤ 16) }
-    ensures { result ≡ partial d loads.now }
-{
-    let mut sum = 0;
-    let mut s = 0;
-    while s < loads.len() {
-        sum += dealt(d, loads[s]);
-        s += 1;
-    }
-    sum
 }
 
 // The part of a load that is dealt: all of it if it is below d.
@@ -221,43 +179,49 @@ fn dealt(d: usize, k: usize) -> usize
     if k < d { k } else { 0 }
 }
 
-// Deals the shards of a width to the loads in turn.
-fn deal(d: usize, w: usize, loads: &[usize], rows: &mut [u64])
-    requires { Fit d w × (length loads.now ≤ 16) × (length loads.now * 4 ≤ length rows.old) }
-    ensures { rows.new ≡ front (spelled (each_below (row_at d w loads.now) (length loads.now))) rows.old }
-{
-    let mut offset = ShardId(0);
-    let mut s = 0;
-    while s < loads.len() {
-        let k = loads[s];
-        rows::put(row_for(d, w, offset, k), rows, s);
-        offset = ShardId(offset.0 + dealt(d, k));
-        s += 1;
-    }
+// Loads that are dealt the shards of a width in turn.
+#[derive(Clone, Copy)]
+struct Layout<'a> {
+    data_shards: usize,
+    width: usize,
+    loads: &'a [usize],
+    ghost fits: { Fit data_shards width },
+    ghost few: { length loads.now ≤ 16 },
 }
 
-// The row of a load at an offset. Of a width of at most 64 it is one word.
-fn row_for(d: usize, w: usize, offset: ShardId, k: usize) -> Row
-    requires { Fit d w }
-    ensures { row_of result ≡ row_for d w offset.0 k }
-{
-    if w <= 64 {
-        return rows::low(word_for(d, w, offset, k));
+impl Layout<'_> {
+    // Writes the rows to the front of the table.
+    fn deal(&self, rows: &mut [u64])
+        requires { length self.now.loads.now * 4 ≤ length rows.old }
+        ensures { rows.new ≡ front (spelled (each_below (row_at self.now.data_shards self.now.width self.now.loads.now) (length self.now.loads.now))) rows.old }
+    {
+        let mut offset = ShardId(0);
+        for (s, k) in self.loads.iter().enumerate() {
+            self.row_at(offset, *k).put(rows, s);
+            offset = ShardId(offset.0 + dealt(self.data_shards, *k));
+        }
     }
-    if k < d {
-        return rows::run_modulo(offset, k, w);
-    }
-    rows::run(ShardId(0), d)
-}
 
-fn word_for(d: usize, w: usize, offset: ShardId, k: usize) -> u64
-    requires { Fit d w × (w ≤ 64) }
-    ensures { result ≡ row_for d w offset.0 k }
-{
-    if k < d {
-        return bitmap::run_modulo(offset.0, k, w);
+    // The row of a load at an offset. Of a width of at most 64 it is one word.
+    fn row_at(&self, offset: ShardId, k: usize) -> Row
+        ensures { row_of result ≡ row_for self.now.data_shards self.now.width offset.0 k }
+    {
+        if self.width <= 64 {
+            return self.row_for::<u64>(offset, k).row();
+        }
+        self.row_for::<Row>(offset, k)
     }
-    bitmap::run(0, d)
+
+    // The same as a set that has room for the width.
+    fn row_for<S: ShardSet>(&self, offset: ShardId, k: usize) -> S
+        requires { self.now.width ≤ S.room }
+        ensures { S.members result ≡ row_for self.now.data_shards self.now.width offset.0 k }
+    {
+        if k < self.data_shards {
+            return S::run_modulo(offset, k, self.width);
+        }
+        S::run(ShardId(0), self.data_shards)
+    }
 }
 
 // The loads of those that answer, and 0 for the others.
@@ -265,10 +229,8 @@ fn heard_loads(answered: u64, loads: &[usize], heard: &mut [usize])
     requires { length heard.old ≡ length loads.now }
     ensures { heard.new ≡ heard_loads answered loads.now }
 {
-    let mut s = 0;
-    while s < loads.len() {
+    for s in 0..loads.len() {
         heard[s] = heard_load(answered, loads[s], ReplicaId(s));
-        s += 1;
     }
 }
 

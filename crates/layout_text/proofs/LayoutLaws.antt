@@ -1,7 +1,7 @@
 -- What a layout text that was read gives: the lengths of runs, what a text without a colon comes to, and that the rows are rows. And what the checks let
 -- through. Assumes nothing.
 use Rattle.std.proofs.Math.Path.{◌≡◌, refl, sym, subst}
-use Rattle.std.proofs.Common.{ap, ◌∙◌, inl, inr, ⊎_elim, div-le_self, arith, length-set, length-take-le, get_or-set_same, get_or-set_other, leb-true, le-leb, eqb-true, eq-eqb, ne_eqb}
+use Rattle.std.proofs.Common.{ap, ◌∙◌, inl, inr, ⊎_elim, div-le_self, arith, length-set, get_or-set_same, get_or-set_other, leb-true, le-leb, eqb-true, eq-eqb, ne_eqb}
 use Rattle.std.specs.Prelude.{◌↔◌, ◌⊎◌, Bool, true, false, cond, ◌&&◌, ◌||◌, List, [], ◌∷◌, ℕ, zero, suc, ◌*◌, ◌%◌, ◌≤◌, ◌<◌, leb, eqb, length, take, get_or, replicate}
 use Rattle.std.proofs.Math.Bool.{and-eq-true_iff}
 use Rattle.std.proofs.Math.Decide.{ℕ_discrete, dec_lt}
@@ -9,7 +9,7 @@ use Rattle.std.specs.Int.Bits.{bit_or}
 use Rattle.std.proofs.Math.ListN.{set, get_or-eq_default}
 use Rattle.std.proofs.lemmas.List.{length-replicate, get_or-replicate}
 use Rattle.std.proofs.lemmas.Bool.{not-false}
-use Rattle.lists.specs.All.{all}
+use Rattle.std.specs.List.{list_all}
 use Rattle.lists.specs.AllLaws.{all_means}
 use Rattle.lists.specs.BelowLaws.{each_below_length, each_below_all}
 use Rattle.rows.specs.Row.{rows_in, spelled}
@@ -22,8 +22,8 @@ use Rattle.refusals.specs.FirstLaws.{none_holds}
 use Rattle.refusals.specs.Outcome.{Outcome, refused, accepted, checked, outcome, and_then}
 use Rattle.refusals.specs.Limits.{most_shards, is_population, is_shards, is_row, are_rows, is_table}
 use Rattle.refusals.specs.LimitLaws.{AreRows, rows_small, population_means, shards_means}
-use Rattle.numerals.specs.Text.{without, is_text, is_empty, is_byte, cut, has_byte, before, behind, split}
-use Rattle.numerals.specs.TextLaws.{PartOf, Ascii, text_means, cut_le}
+use Rattle.numerals.specs.Text.{without, is_text, is_empty, cut, has_byte, before, behind, split}
+use Rattle.numerals.specs.TextLaws.{Ascii, text_means, split_head}
 use Rattle.numerals.proofs.ReadLaws.{read_keeps, read_refused}
 use Rattle.numerals.specs.Whole.{is_digits, whole_of, below_of, members_of}
 use Rattle.numerals.proofs.WholeLaws.{below_limit, members_below}
@@ -120,16 +120,13 @@ none_in x (suc k) (b ∷ bs) h = go (eqb b x) h (none_in x k bs)
     go false q ih = ih q
 
 module _ (n total : ℕ) (s : List ℕ) (h : has_byte 58 s ≡ false) where
-  first_part : PartOf s 0 47 (before 47 s)
-  first_part = record { part_is = refl; inside = omega (arith, length-take-le (cut 47 s) s (cut_le (is_byte 47) s), cut_le (is_byte 47) s) }
-
   first_refused : (rows : List ℕ) → segment_in n total rows (before 47 s) ≡ refused LAYOUT
   unfolding segment_in segment_of
   first_refused rows = rw (none_in 58 (cut 47 s) s h)
 
   no_segments : segments_of n total s ≡ refused LAYOUT
   unfolding segments_of
-  no_segments = sym (read_refused (segment_in n total) (replicate n 0) refl first_part (first_refused (replicate n 0)))
+  no_segments = sym (read_refused (segment_in n total) (replicate n 0) refl (split_head 47 s) (first_refused (replicate n 0)))
 
 -- runs where there is a length, and otherwise 13
 abbrev pub runs_only : ℕ → ℕ → Outcome ℕ → Outcome (List ℕ)
@@ -289,7 +286,7 @@ table_holds n d total s len {words} e = go (init_of n d total s len) refl e
         let l : length words ≡ n * 4 = ap length (sym z) ∙ spelled_length rows ∙ ap (λ (k : ℕ). k * 4) r.0.0 in
         record {
           read = t ∙ ap accepted (sym q);
-          below = ap (all (is_row total)) q ∙ r.0.1;
+          below = ap (list_all (is_row total)) q ∙ r.0.1;
           table = eq-eqb (length words) (n * 4) l;
           filled = l ∙ sym r.1;
         }

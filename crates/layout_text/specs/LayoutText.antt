@@ -1,20 +1,18 @@
 -- A layout text: empty, a number, or segments `replica:shard,shard` joined by `/`. Nothing is trimmed. Assumes nothing.
-use Rattle.std.specs.Prelude.{false, cond, ◌&&◌, List, [], ◌∷◌, ℕ, ◌*◌, ◌/◌, ◌%◌, leb, eqb, set, get_or, replicate}
+use Rattle.std.specs.Prelude.{false, cond, ◌&&◌, List, [], ◌∷◌, ℕ, ◌*◌, ◌/◌, ◌%◌, leb, eqb, set, get_or, replicate, Result}
 use Rattle.std.specs.Int.Bits.{bit_or}
 use Rattle.lists.specs.Below.{each_below}
 use Rattle.bitmap.specs.Mask.{run_modulo}
-use Rattle.rows.specs.Row.{row_of, spelled}
+use Rattle.rows.specs.Row.{spelled}
 use Rattle.refusals.specs.Numbers.{POPULATION, SHARDS, TEXT, LAYOUT, MULTIPLE, TABLE}
 use Rattle.refusals.specs.First.{unless, first_of}
 use Rattle.refusals.specs.Outcome.{Outcome, refused, accepted, checked, outcome, and_then}
 use Rattle.refusals.specs.Limits.{is_population, is_shards, is_table}
+use Rattle.refusals.specs.Refused.{outcome_by}
+use Rattle.refusals.specs.declared.Refusal.{Refusal}
 use Rattle.numerals.specs.Text.{is_text, is_empty, has_byte, before, behind, split}
 use Rattle.numerals.specs.Read.{read_each}
 use Rattle.numerals.specs.Whole.{whole_of, below_of, members_of}
-use Rattle.layout_text.specs.declared.Segment.{Segment}
-use Rattle.layout_text.specs.declared.Segment.TheVariants as Segments
-use Rattle.layout_text.specs.declared.Init.{Init}
-use Rattle.layout_text.specs.declared.Init.TheVariants.{Refused, Rows}
 
 -- ---- runs
 
@@ -87,14 +85,8 @@ in_table n total len o = and_then (and_then o (λ rows. outcome (table_refusal n
 unfoldable pub init_table : ℕ → ℕ → ℕ → List ℕ → ℕ → Outcome (List ℕ)
 init_table n d total s len = and_then (init_of n d total s len) (λ rows. accepted (spelled rows))
 
--- ---- what the answers are
+-- ---- what an answer is
 
--- of a segment: the replica's number and its shards
-abbrev pub segment : Segment → Outcome (ℕ × ℕ)
-segment (Segments.Refused k) = refused k
-segment (Segments.Row r m) = accepted (r.0, row_of m)
-
--- of the text, with the words that the table holds at exit
-abbrev pub answer : Init → List ℕ → Outcome (List ℕ)
-answer (Refused k) rows = refused k
-answer Rows rows = accepted rows
+-- of the text, or a part of it, with the words that the table holds at exit
+abbrev pub answer : Result Unit Refusal → List ℕ → Outcome (List ℕ)
+answer r rows = outcome_by (λ u. rows) r

@@ -11,9 +11,9 @@ use native.Mathlib.Numerals.{add-one}
 use native.Mathlib.Omega.{arith}
 use lib.ListN.{length, take, set, length-set, length-append, length-drop, drop_of_length-le}
 use lib.Seq.{set-append_seam, drop-cons, take_all, take-suc-set}
-use Rattle.lists.specs.All.{passing}
+use Rattle.std.specs.List.{filter}
 use Rattle.lists.specs.Below.{some_below, those_below, run_from, each_below, front}
-use Rattle.lists.specs.BelowLaws.{some_below_means, each_below_length}
+use Rattle.lists.specs.BelowLaws.{some_below_means}
 use Rattle.lists.specs.ListedLaws.{passing_append}
 
 -- ---- one list at the front of another
@@ -76,9 +76,6 @@ module _ (f : ℕ → Bool) where
     pub count_no : (r : Bool) (d : ℕ) → r ≡ f k → r ≡ false → d ≡ c → d ≡ length (those_below f (k + 1))
     count_no r d q t e = omega (arith, ap length (those_no k (sym q ∙ t)))
 
-    pub count_done : (L n : ℕ) → L ≡ n → k ≤ L → L ≤ k → c ≡ length (those_below f n)
-    count_done L n e h g = let q : k ≡ n = omega arith in counted ∙ ap (λ (x : ℕ). length (those_below f x)) q
-
     -- and writes them to the front of l, which has room for those below n; w is l as written so far
     module _ (L n : ℕ) (l : List ℕ) (bound : L ≡ n) (all : length (those_below f n) ≤ length l) where
       pub room : (r : Bool) → k < L → r ≡ f k → r ≡ true → c < length l
@@ -98,9 +95,6 @@ module _ (f : ℕ → Bool) where
 
         pub write_no : (v : List ℕ) (r : Bool) → r ≡ f k → r ≡ false → v ≡ w → v ≡ front (those_below f (k + 1)) l
         write_no v r q t s = s ∙ written ∙ ap (λ (x : List ℕ). front x l) (sym (those_no k (sym q ∙ t)))
-
-        pub write_done : k ≤ L → L ≤ k → w ≡ front (those_below f n) l
-        write_done h g = let q : k ≡ n = omega arith in written ∙ ap (λ (x : ℕ). front (those_below f x) l) q
 
 -- ---- a loop up to n that writes f 0, f 1, .. at the places 0, 1, ..: w is the list as written so far
 module _ {A : Type 0} (f : ℕ → A) where
@@ -131,29 +125,10 @@ module _ {A : Type 0} (f : ℕ → A) where
       pub filled_done : n ≤ k → w ≡ each_below f n
       filled_done h = sym (take_all n w (le_of_eq filled.1)) ∙ each_done w k filled.2 n filled.0 h
 
--- ---- the same, and past those places w is as l was
-module _ (f : ℕ → ℕ) (l : List ℕ) where
-  pub front_none : l ≡ front (each_below f 0) l
-  unfolding each_below front
-  front_none = refl
-
-  module _ (w : List ℕ) (k : ℕ) (written : w ≡ front (each_below f k) l) where
-    pub front_next : (x : ℕ) → k < length l → x ≡ f k → set w k x ≡ front (each_below f (k + 1)) l
-    unfolding each_below
-    front_next x h e =
-        let n = each_below_length f k in
-        rw (written, front_more (each_below f k) l x k (sym n) (omega arith), add-one, e)
-
-    pub front_done : (n : ℕ) → k ≤ n → n ≤ k → w ≡ front (each_below f n) l
-    front_done n h g = let q : k ≡ n = omega arith in rw q at written
-
 -- ---- a loop up to m that goes on while the test passes: what is left of the run ends where the whole does
 module _ (f : ℕ → Bool) (m k : ℕ) where
   abbrev pub Running : Type 0
   Running = run_from f (m - k) k ≡ run_from f m 0
-
-  pub run_starts : k ≡ 0 → Running
-  run_starts e = let z : m - k ≡ m = omega arith in rw (z, e)
 
   here : k < m → m - k ≡ suc (m - (k + 1))
   here h = omega arith
@@ -189,15 +164,15 @@ module _ (f : ℕ → Bool) (k : ℕ) where
 -- ---- a loop that takes a step at each of f 0, f 1, .. that passes
 module _ {A B : Type 0} (step : B → A → B) (b : B) (t : A → Bool) (f : ℕ → A) where
   abbrev pub taken_below : ℕ → B
-  taken_below k = foldl step b (passing t (each_below f k))
+  taken_below k = foldl step b (filter t (each_below f k))
 
   pub taken_none : b ≡ taken_below 0
   unfolding each_below
   taken_none = refl
 
-  next : (k : ℕ) → taken_below (suc k) ≡ foldl step (taken_below k) (passing t (f k ∷ []))
+  next : (k : ℕ) → taken_below (suc k) ≡ foldl step (taken_below k) (filter t (f k ∷ []))
   unfolding each_below
-  next k = ap (foldl step b) (passing_append t (each_below f k) (f k ∷ [])) ∙ foldl-append step b (passing t (each_below f k)) (passing t (f k ∷ []))
+  next k = ap (foldl step b) (passing_append t (each_below f k) (f k ∷ [])) ∙ foldl-append step b (filter t (each_below f k)) (filter t (f k ∷ []))
 
   pub taken_yes : (k : ℕ) → t (f k) ≡ true → taken_below (k + 1) ≡ step (taken_below k) (f k)
   taken_yes k e = rw add-one (next k ∙ rw e)
@@ -207,7 +182,7 @@ module _ {A B : Type 0} (step : B → A → B) (b : B) (t : A → Bool) (f : ℕ
 
   -- where no step changes what it has come to, that is what it comes to
   pub taken_still : (k n : ℕ) → k ≤ n → ((x : A) → step (taken_below k) x ≡ taken_below k) → taken_below n ≡ taken_below k
-  taken_still k n h still = le_ind (λ (m : ℕ). taken_below m ≡ taken_below k) refl (λ m l e. next m ∙ ap (λ (s : B). foldl step s (passing t (f m ∷ []))) e ∙ one (t (f m)) (f m)) n h
+  taken_still k n h still = le_ind (λ (m : ℕ). taken_below m ≡ taken_below k) refl (λ m l e. next m ∙ ap (λ (s : B). foldl step s (filter t (f m ∷ []))) e ∙ one (t (f m)) (f m)) n h
     where
       one : (v : Bool) (x : A) → foldl step (taken_below k) (cond v (x ∷ []) []) ≡ taken_below k
       one true x = still x

@@ -2,5 +2,4 @@
 pub mod Loops
 pub mod SortLoops
 pub mod BelowLoops
-pub mod FirstLoops
 pub mod Lent

@@ -1,22 +1,7 @@
--- Tests and statements over a whole list. Assumes nothing.
-use Rattle.std.specs.Prelude.{◌≡◌, Bool, true, false, cond, ◌&&◌, ◌||◌, List, [], ◌∷◌}
+-- Statements over a whole list. The tests over one, `list_all` and `list_any`, and `filter` are those of std. Assumes nothing.
+use Rattle.std.specs.Prelude.{◌≡◌, List, [], ◌∷◌}
 
 module _ {A : Type 0} where
-  -- every element passes the test
-  abbrev pub all : (A → Bool) → List A → Bool
-  all p [] = true
-  all p (x ∷ xs) = p x && all p xs
-
-  -- some element passes the test
-  abbrev pub any : (A → Bool) → List A → Bool
-  any p [] = false
-  any p (x ∷ xs) = p x || any p xs
-
-  -- the elements that pass the test, in their order
-  abbrev pub passing : (A → Bool) → List A → List A
-  passing p [] = []
-  passing p (x ∷ xs) = cond (p x) (x ∷ passing p xs) (passing p xs)
-
   -- F holds of each element
   abbrev pub AllOf : (A → Type 0) → List A → Type 0
   AllOf F [] = Unit {0}

@@ -9,7 +9,7 @@ use Prim.Native.Nat.{ℕ, zero, suc, ◌+◌, ◌≤◌, ◌<◌}
 use Rattle.std.proofs.Math.Dec.{ltb}
 use Rattle.std.proofs.Math.ListN.{length-append, get_or-append}
 use Rattle.std.proofs.Math.Seq.{get_or_at}
-use Rattle.lists.specs.All.{all}
+use Rattle.std.specs.List.{list_all}
 use Rattle.lists.specs.AllLaws.{all_means}
 use Rattle.lists.specs.Below.{some_below, those_below, run_from, each_below}
 use Rattle.lists.specs.SortLaws.{AtLeast, Ordered}
@@ -181,7 +181,7 @@ module _ {A : Type 0} (f : ℕ → A) where
   each_below_listed k x = (listed k x, λ p. there k p.place x p.small p.here)
 
   -- a test that each of them passes
-  pub each_below_all : (p : A → Bool) (d : A) (k : ℕ) → ((i : ℕ) → i < k → p (f i) ≡ true) → all p (each_below f k) ≡ true
+  pub each_below_all : (p : A → Bool) (d : A) (k : ℕ) → ((i : ℕ) → i < k → p (f i) ≡ true) → list_all p (each_below f k) ≡ true
   each_below_all p d k h =
       (all_means p d (each_below f k)).1 (λ i l.
       let g : i < k = rw (each_below_length k) at l in

@@ -7,7 +7,8 @@ use Rattle.std.proofs.Common.{sym, subst, ◌∙◌, inl, inr, ⊎_elim, true≢
 use mathlib.Core.List.Memᴰ
 use mathlib.Core.List.{List, [], ◌∷◌, foldl, Memᴰ}
 use Rattle.std.proofs.Math.Bool.{true, false}
-use Rattle.std.proofs.Math.Option.{Option, none, some, some-injective, none-ne-some, some-ne-none}
+use Rattle.std.specs.Prelude.{Option, None, Some}
+use Rattle.lists.specs.OptionLaws.{some-injective, none-ne-some, some-ne-none}
 use Prim.Native.Nat.{ℕ, zero, suc, ◌≤◌, ◌<◌}
 use Rattle.std.proofs.Math.Nat.{le_refl}
 use native.Mathlib.Omega.{arith}
@@ -27,57 +28,57 @@ module _ {A : Type 0} (le : A → A → Bool) (total : (x y : A) → le x y ≡ 
   pub considered_again : (b : Option A) (x : A) → considering (considering b x) x ≡ considering b x
   considered_again b x = go (t x) b
     where
-      either : (v : Bool) → cond v (some x) (some x) ≡ some x
+      either : (v : Bool) → cond v (Some x) (Some x) ≡ Some x
       either true = refl
       either false = refl
 
-      found : (c : A) (v : Bool) → le c x ≡ v → better_by le (cond v (some c) (some x)) x ≡ cond v (some c) (some x)
+      found : (c : A) (v : Bool) → le c x ≡ v → better_by le (cond v (Some c) (Some x)) x ≡ cond v (Some c) (Some x)
       found c true e = rw e
       found c false e = either (le x x)
 
       go : (v : Bool) (b : Option A) → cond v (better_by le (cond v (better_by le b x) b) x) (cond v (better_by le b x) b) ≡ cond v (better_by le b x) b
-      go true none = either (le x x)
-      go true (some c) = found c (le c x) refl
+      go true None = either (le x x)
+      go true (Some c) = found c (le c x) refl
       go false b = refl
 
   pub considered_before : (b : Option A) (x y : A) → considering b y ≡ b → considering (considering b x) y ≡ considering b x
   considered_before b x y e = go (t y) (t x) b e
     where
-      at_most : (c : A) (v : Bool) → le c y ≡ v → cond v (some c) (some y) ≡ some c → le c y ≡ true
+      at_most : (c : A) (v : Bool) → le c y ≡ v → cond v (Some c) (Some y) ≡ Some c → le c y ≡ true
       at_most c true q h = q
       at_most c false q h = let z : y ≡ c = some-injective y c h in absurd (true≢false (sym (total c y q) ∙ ap (λ (u : A). le u c) z ∙ ap (le c) (sym z) ∙ q))
 
-      moved : (c : A) (v : Bool) → le c x ≡ v → le c y ≡ true → better_by le (cond v (some c) (some x)) y ≡ cond v (some c) (some x)
+      moved : (c : A) (v : Bool) → le c x ≡ v → le c y ≡ true → better_by le (cond v (Some c) (Some x)) y ≡ cond v (Some c) (Some x)
       moved c true q h = rw h
       moved c false q h = rw (trans x c y (total c x q) h)
 
       go : (v w : Bool) (b : Option A) → cond v (better_by le b y) b ≡ b → cond v (better_by le (cond w (better_by le b x) b) y) (cond w (better_by le b x) b) ≡ cond w (better_by le b x) b
       go false w b h = refl
-      go true w none h = absurd (some-ne-none y h)
-      go true true (some c) h = moved c (le c x) refl (at_most c (le c y) refl h)
-      go true false (some c) h = h
+      go true w None h = absurd (some-ne-none y h)
+      go true true (Some c) h = moved c (le c x) refl (at_most c (le c y) refl h)
+      go true false (Some c) h = h
 
 module _ {A : Type 0} (le : A → A → Bool) (total : (x y : A) → le x y ≡ false → le y x ≡ true)
     (trans : (x y z : A) → le x y ≡ true → le y z ≡ true → le x z ≡ true) (t : A → Bool) where
   -- y is at most all that may have been found
   abbrev Above : A → Option A → Type 0
-  Above y none = Unit
-  Above y (some b) = le y b ≡ true
+  Above y None = Unit
+  Above y (Some b) = le y b ≡ true
 
   first_above : (y : A) (l : List A) → AtLeast le y l → Above y (first_that t l)
   first_above y [] h = tt
   first_above y (x ∷ xs) h = go (t x) (first_above y xs h.1)
     where
-      go : (b : Bool) → Above y (first_that t xs) → Above y (cond b (some x) (first_that t xs))
+      go : (b : Bool) → Above y (first_that t xs) → Above y (cond b (Some x) (first_that t xs))
       go true r = h.0
       go false r = r
 
   -- x is strictly below y, which is at most all that may have been found: then it is the better one
-  better_strict : (x y : A) (r : Option A) → le y x ≡ false → Above y r → better_by le r x ≡ some x
-  better_strict x y none n h = refl
-  better_strict x y (some b) n h = go (le b x) refl
+  better_strict : (x y : A) (r : Option A) → le y x ≡ false → Above y r → better_by le r x ≡ Some x
+  better_strict x y None n h = refl
+  better_strict x y (Some b) n h = go (le b x) refl
     where
-      go : (v : Bool) → le b x ≡ v → cond v (some b) (some x) ≡ some x
+      go : (v : Bool) → le b x ≡ v → cond v (Some b) (Some x) ≡ Some x
       go true e = absurd (true≢false (sym (trans y b x h e) ∙ n))
       go false e = refl
 
@@ -87,12 +88,12 @@ module _ {A : Type 0} (le : A → A → Bool) (total : (x y : A) → le x y ≡ 
 
   module _ (x y : A) (ys : List A) where
     after_first : (u w : Bool) → le y x ≡ true → first_that t (insert_by le x ys) ≡ cond u (better_by le (first_that t ys) x) (first_that t ys)
-        → cond w (some y) (first_that t (insert_by le x ys)) ≡ cond u (better_by le (cond w (some y) (first_that t ys)) x) (cond w (some y) (first_that t ys))
+        → cond w (Some y) (first_that t (insert_by le x ys)) ≡ cond u (better_by le (cond w (Some y) (first_that t ys)) x) (cond w (Some y) (first_that t ys))
     after_first true true e ih = rw e
     after_first false true e ih = refl
     after_first u false e ih = ih
 
-    before_first : (u : Bool) (r : Option A) → le y x ≡ false → Above y r → cond u (some x) r ≡ cond u (better_by le r x) r
+    before_first : (u : Bool) (r : Option A) → le y x ≡ false → Above y r → cond u (Some x) r ≡ cond u (better_by le r x) r
     before_first true r e h = sym (better_strict x y r e h)
     before_first false r e h = refl
 
@@ -132,7 +133,7 @@ module _ {A : Type 0} (le : A → A → Bool) (total : (x y : A) → le x y ≡ 
       go ih (inl e) = ap (le z) e ∙ h.0
       go ih (inr r) = ih r
 
-  ordered_first : (l : List A) (x : A) → Ordered le l → first_that t l ≡ some x → FirstIn l x
+  ordered_first : (l : List A) (x : A) → Ordered le l → first_that t l ≡ Some x → FirstIn l x
   ordered_first [] x o e = absurd (none-ne-some x e)
   ordered_first (y ∷ ys) x o e = go (t y) refl (λ q. ordered_first ys x o.1 q) e
     where
@@ -144,7 +145,7 @@ module _ {A : Type 0} (le : A → A → Bool) (total : (x y : A) → le x y ≡ 
       here q z (inl r) = ap (λ (w : A). le w z) (sym q) ∙ ap (le y) r ∙ reflexive le total y
       here q z (inr r) = ap (λ (w : A). le w z) (sym q) ∙ above_each y ys o.0 z r
 
-      go : (b : Bool) → t y ≡ b → (first_that t ys ≡ some x → FirstIn ys x) → cond b (some y) (first_that t ys) ≡ some x → FirstIn (y ∷ ys) x
+      go : (b : Bool) → t y ≡ b → (first_that t ys ≡ Some x → FirstIn ys x) → cond b (Some y) (first_that t ys) ≡ Some x → FirstIn (y ∷ ys) x
       go true q ih e =
           let r : y ≡ x = some-injective y x e in
           record { listed = Memᴰ.head (sym r); passes = ap t (sym r) ∙ q; first = λ z m u. here r z (Memᴰ.cases_cons m) }
@@ -152,42 +153,42 @@ module _ {A : Type 0} (le : A → A → Bool) (total : (x y : A) → le x y ≡ 
           let f = ih e in
           record { listed = Memᴰ.tail f.listed; passes = f.passes; first = λ z m u. after f q z (Memᴰ.cases_cons m) u }
 
-  none_passes : (l : List A) → first_that t l ≡ none → (y : A) → Memᴰ y l → t y ≡ false
+  none_passes : (l : List A) → first_that t l ≡ None → (y : A) → Memᴰ y l → t y ≡ false
   none_passes [] e y m = absurd (Memᴰ.not-nil m)
   none_passes (x ∷ xs) e y m = go (t x) refl (λ q. none_passes xs q y) e (Memᴰ.cases_cons m)
     where
-      go : (b : Bool) → t x ≡ b → (first_that t xs ≡ none → Memᴰ y xs → t y ≡ false) → cond b (some x) (first_that t xs) ≡ none → (y ≡ x) ⊎ Memᴰ y xs → t y ≡ false
+      go : (b : Bool) → t x ≡ b → (first_that t xs ≡ None → Memᴰ y xs → t y ≡ false) → cond b (Some x) (first_that t xs) ≡ None → (y ≡ x) ⊎ Memᴰ y xs → t y ≡ false
       go true q ih e h = absurd (some-ne-none x e)
       go false q ih e (inl r) = ap t r ∙ q
       go false q ih e (inr r) = ih e r
 
-  none_found : (l : List A) → ((y : A) → Memᴰ y l → t y ≡ false) → first_that t l ≡ none
+  none_found : (l : List A) → ((y : A) → Memᴰ y l → t y ≡ false) → first_that t l ≡ None
   none_found [] h = refl
   none_found (x ∷ xs) h = rw (h x (Memᴰ.head refl)) (none_found xs (λ y m. h y (Memᴰ.tail m)))
 
   -- none is found exactly if no element passes
-  pub none_means : (xs : List A) → (first_that t (sorted_by le xs) ≡ none) ↔ ((y : A) → Memᴰ y xs → t y ≡ false)
+  pub none_means : (xs : List A) → (first_that t (sorted_by le xs) ≡ None) ↔ ((y : A) → Memᴰ y xs → t y ≡ false)
   none_means xs = (
     λ e y m. none_passes (sorted_by le xs) e y ((sorted_listed le y xs).1 m),
     λ h. none_found (sorted_by le xs) (λ y m. h y ((sorted_listed le y xs).0 m)),
   )
 
-  found_first : (xs : List A) (x : A) → first_that t (sorted_by le xs) ≡ some x → FirstIn xs x
+  found_first : (xs : List A) (x : A) → first_that t (sorted_by le xs) ≡ Some x → FirstIn xs x
   found_first xs x e =
       let f = ordered_first (sorted_by le xs) x (sorted_ordered le total trans xs) e in
       record { listed = (sorted_listed le x xs).0 f.listed; passes = f.passes; first = λ y m. f.first y ((sorted_listed le y xs).1 m) }
 
-  first_found : (xs : List A) (x : A) → AllOf F xs → FirstIn xs x → first_that t (sorted_by le xs) ≡ some x
+  first_found : (xs : List A) (x : A) → AllOf F xs → FirstIn xs x → first_that t (sorted_by le xs) ≡ Some x
   first_found xs x a f = go (first_that t (sorted_by le xs)) refl
     where
-      go : (r : Option A) → first_that t (sorted_by le xs) ≡ r → first_that t (sorted_by le xs) ≡ some x
-      go none e = absurd (true≢false (sym f.passes ∙ (none_means xs).0 e x f.listed))
-      go (some y) e =
+      go : (r : Option A) → first_that t (sorted_by le xs) ≡ r → first_that t (sorted_by le xs) ≡ Some x
+      go None e = absurd (true≢false (sym f.passes ∙ (none_means xs).0 e x f.listed))
+      go (Some y) e =
           let g = found_first xs y e in
-          e ∙ ap some (antisym y x (all_of_listed F xs a y g.listed) (all_of_listed F xs a x f.listed) (g.first x f.listed f.passes) (f.first y g.listed g.passes))
+          e ∙ ap Some (antisym y x (all_of_listed F xs a y g.listed) (all_of_listed F xs a x f.listed) (g.first x f.listed f.passes) (f.first y g.listed g.passes))
 
   -- x is found exactly if it is the first
-  pub first_means : (xs : List A) (x : A) → AllOf F xs → (first_that t (sorted_by le xs) ≡ some x) ↔ FirstIn xs x
+  pub first_means : (xs : List A) (x : A) → AllOf F xs → (first_that t (sorted_by le xs) ≡ Some x) ↔ FirstIn xs x
   first_means xs x a = (found_first xs x, first_found xs x a)
 
 -- ---- the first of the numbers 0 to k with the least value

@@ -5,7 +5,8 @@ use Rattle.std.proofs.Math.Bool.{and-eq-true_iff}
 use mathlib.Core.List.Memᴰ
 use mathlib.Core.List.{List, [], ◌∷◌, ◌++◌, Memᴰ}
 use Prim.Native.Nat.{ℕ, zero, suc, ◌<◌}
-use Rattle.lists.specs.All.{all, passing, AllOf, Distinct}
+use Rattle.std.specs.List.{list_all, filter}
+use Rattle.lists.specs.All.{AllOf, Distinct}
 use Rattle.lists.specs.AllLaws.{all_of_listed}
 use Rattle.lists.specs.Below.{each_below}
 use Rattle.lists.specs.BelowLaws.{each_below_listed}
@@ -31,64 +32,64 @@ listed_all_of F [] h = tt
 listed_all_of F (x ∷ xs) h = (h x (Memᴰ.head refl), listed_all_of F xs (λ y m. h y (Memᴰ.tail m)))
 
 -- each passes exactly if whatever is in the list does
-pub all_listed : {A : Type 0} (p : A → Bool) (xs : List A) → all p xs ≡ true → (y : A) → Memᴰ y xs → p y ≡ true
+pub all_listed : {A : Type 0} (p : A → Bool) (xs : List A) → list_all p xs ≡ true → (y : A) → Memᴰ y xs → p y ≡ true
 all_listed {A} p xs e = all_of_listed (λ x. p x ≡ true) xs (each xs e)
   where
-    each : (xs : List A) → all p xs ≡ true → AllOf (λ x. p x ≡ true) xs
+    each : (xs : List A) → list_all p xs ≡ true → AllOf (λ x. p x ≡ true) xs
     each [] e = tt
-    each (x ∷ xs) e = let q = (and-eq-true_iff (p x) (all p xs)).0 e in (q.0, each xs q.1)
+    each (x ∷ xs) e = let q = (and-eq-true_iff (p x) (list_all p xs)).0 e in (q.0, each xs q.1)
 
-pub listed_all : {A : Type 0} (p : A → Bool) (xs : List A) → ((y : A) → Memᴰ y xs → p y ≡ true) → all p xs ≡ true
+pub listed_all : {A : Type 0} (p : A → Bool) (xs : List A) → ((y : A) → Memᴰ y xs → p y ≡ true) → list_all p xs ≡ true
 listed_all p [] h = refl
-listed_all p (x ∷ xs) h = (and-eq-true_iff (p x) (all p xs)).1 (h x (Memᴰ.head refl), listed_all p xs (λ y m. h y (Memᴰ.tail m)))
+listed_all p (x ∷ xs) h = (and-eq-true_iff (p x) (list_all p xs)).1 (h x (Memᴰ.head refl), listed_all p xs (λ y m. h y (Memᴰ.tail m)))
 
 -- ---- those that pass
 module _ {A : Type 0} (p : A → Bool) where
-  pub passing_append : (xs ys : List A) → passing p (xs ++ ys) ≡ passing p xs ++ passing p ys
+  pub passing_append : (xs ys : List A) → filter p (xs ++ ys) ≡ filter p xs ++ filter p ys
   passing_append [] ys = refl
   passing_append (x ∷ xs) ys = go (p x) (passing_append xs ys)
     where
-      go : (b : Bool) → passing p (xs ++ ys) ≡ passing p xs ++ passing p ys
-          → cond b (x ∷ passing p (xs ++ ys)) (passing p (xs ++ ys)) ≡ cond b (x ∷ passing p xs) (passing p xs) ++ passing p ys
+      go : (b : Bool) → filter p (xs ++ ys) ≡ filter p xs ++ filter p ys
+          → cond b (x ∷ filter p (xs ++ ys)) (filter p (xs ++ ys)) ≡ cond b (x ∷ filter p xs) (filter p xs) ++ filter p ys
       go true e = ap (λ (l : List A). x ∷ l) e
       go false e = e
 
-  forth : (x : A) (xs : List A) → Memᴰ x (passing p xs) → Memᴰ x xs × (p x ≡ true)
+  forth : (x : A) (xs : List A) → Memᴰ x (filter p xs) → Memᴰ x xs × (p x ≡ true)
   forth x [] m = absurd (Memᴰ.not-nil m)
   forth x (y ∷ ys) m = go (p y) refl (forth x ys) m
     where
       later : Memᴰ x ys × (p x ≡ true) → Memᴰ x (y ∷ ys) × (p x ≡ true)
       later r = (Memᴰ.tail r.0, r.1)
 
-      head : p y ≡ true → (Memᴰ x (passing p ys) → Memᴰ x ys × (p x ≡ true)) → (x ≡ y) ⊎ Memᴰ x (passing p ys) → Memᴰ x (y ∷ ys) × (p x ≡ true)
+      head : p y ≡ true → (Memᴰ x (filter p ys) → Memᴰ x ys × (p x ≡ true)) → (x ≡ y) ⊎ Memᴰ x (filter p ys) → Memᴰ x (y ∷ ys) × (p x ≡ true)
       head q ih (inl e) = (Memᴰ.head e, ap p e ∙ q)
       head q ih (inr r) = later (ih r)
 
-      go : (b : Bool) → p y ≡ b → (Memᴰ x (passing p ys) → Memᴰ x ys × (p x ≡ true)) → Memᴰ x (cond b (y ∷ passing p ys) (passing p ys)) → Memᴰ x (y ∷ ys) × (p x ≡ true)
+      go : (b : Bool) → p y ≡ b → (Memᴰ x (filter p ys) → Memᴰ x ys × (p x ≡ true)) → Memᴰ x (cond b (y ∷ filter p ys) (filter p ys)) → Memᴰ x (y ∷ ys) × (p x ≡ true)
       go true q ih m = head q ih (Memᴰ.cases_cons m)
       go false q ih m = later (ih m)
 
-  back : (x : A) (xs : List A) → p x ≡ true → Memᴰ x xs → Memᴰ x (passing p xs)
+  back : (x : A) (xs : List A) → p x ≡ true → Memᴰ x xs → Memᴰ x (filter p xs)
   back x [] t m = absurd (Memᴰ.not-nil m)
   back x (y ∷ ys) t m = go (p y) refl (back x ys t) (Memᴰ.cases_cons m)
     where
-      go : (b : Bool) → p y ≡ b → (Memᴰ x ys → Memᴰ x (passing p ys)) → (x ≡ y) ⊎ Memᴰ x ys → Memᴰ x (cond b (y ∷ passing p ys) (passing p ys))
+      go : (b : Bool) → p y ≡ b → (Memᴰ x ys → Memᴰ x (filter p ys)) → (x ≡ y) ⊎ Memᴰ x ys → Memᴰ x (cond b (y ∷ filter p ys) (filter p ys))
       go true q ih (inl e) = Memᴰ.head e
       go true q ih (inr r) = Memᴰ.tail (ih r)
       go false q ih (inl e) = absurd (true≢false (sym t ∙ ap p e ∙ q))
       go false q ih (inr r) = ih r
 
-  pub passing_listed : (x : A) (xs : List A) → Memᴰ x (passing p xs) ↔ (Memᴰ x xs × (p x ≡ true))
+  pub passing_listed : (x : A) (xs : List A) → Memᴰ x (filter p xs) ↔ (Memᴰ x xs × (p x ≡ true))
   passing_listed x xs = (forth x xs, λ h. back x xs h.1 h.0)
 
-  pub passing_all_of : (F : A → Type 0) (xs : List A) → AllOf F xs → AllOf F (passing p xs)
-  passing_all_of F xs a = listed_all_of F (passing p xs) (λ y m. all_of_listed F xs a y (forth y xs m).0)
+  pub passing_all_of : (F : A → Type 0) (xs : List A) → AllOf F xs → AllOf F (filter p xs)
+  passing_all_of F xs a = listed_all_of F (filter p xs) (λ y m. all_of_listed F xs a y (forth y xs m).0)
 
-  pub passing_distinct : (xs : List A) → Distinct xs → Distinct (passing p xs)
+  pub passing_distinct : (xs : List A) → Distinct xs → Distinct (filter p xs)
   passing_distinct [] h = tt
   passing_distinct (x ∷ xs) h = go (p x) (passing_distinct xs h.1)
     where
-      go : (b : Bool) → Distinct (passing p xs) → Distinct (cond b (x ∷ passing p xs) (passing p xs))
+      go : (b : Bool) → Distinct (filter p xs) → Distinct (cond b (x ∷ filter p xs) (filter p xs))
       go true ih = (passing_all_of (λ y. y ≡ x → ⊥) xs h.0, ih)
       go false ih = ih
 

@@ -1,3 +1,2 @@
--- How many sets there are, and worked values.
-pub mod Sizes
+-- Worked values.
 pub mod Examples

@@ -1,9 +1,10 @@
 -- What is flagged in a table of bits: where a word is stored, where a set is flagged, in a table of zeros, past the end. Assumes nothing.
-use Rattle.std.specs.Prelude.{ℕ, zero, suc, ◌*◌, ◌/◌, ◌%◌, ◌^◌, ◌<◌, ◌≤◌, ◌≡◌, refl, Bool, true, false, ◌||◌, List, eqb, length, get_or, set, replicate}
+use Rattle.std.specs.Prelude.{ℕ, zero, suc, ◌*◌, ◌/◌, ◌%◌, ◌^◌, ◌<◌, ◌≤◌, ◌≡◌, refl, Bool, true, false, ◌||◌, List, eqb, length, get_or, set, take, replicate, ◌++◌}
 use Rattle.std.proofs.Math.Decide.{ℕ_discrete}
 use Rattle.std.proofs.Common.{arith, ap, ◌∙◌, eq-eqb, ne_eqb, get_or-set_same, get_or-set_other}
 use Rattle.std.specs.Int.Bits.{bit_or}
 use Rattle.std.proofs.Math.ListN.{get_or-eq_default}
+use Rattle.std.proofs.lemmas.List.{get_or-take, get_or_append_left}
 use Rattle.bitmap.specs.Mask.{has_bit}
 use Rattle.bitmap.specs.MaskLaws.{has_or, bit_same, bit_other, bit_none}
 use Rattle.marks.specs.Marks.{flagged, with_flag}
@@ -63,3 +64,12 @@ none_flagged k m = rw (zeros k (m / 64), bit_none)
 pub flagged_past : (t : List ℕ) (m : ℕ) → length t ≤ m / 64 → flagged t m ≡ false
 unfolding flagged
 flagged_past t m h = rw (get_or-eq_default t 0 h, bit_none)
+
+-- the first k words flag what the table does there, and so does a table that more words follow
+pub flagged_cut : (t : List ℕ) (k m : ℕ) → m < 64 * k → flagged (take k t) m ≡ flagged t m
+unfolding flagged
+flagged_cut t k m h = let i : m / 64 < k = omega arith in rw (get_or-take k t (m / 64) 0 i)
+
+pub flagged_longer : (t more : List ℕ) (m : ℕ) → m < 64 * length t → flagged (t ++ more) m ≡ flagged t m
+unfolding flagged
+flagged_longer t more m h = let i : m / 64 < length t = omega arith in rw (get_or_append_left t more 0 (m / 64) i)

@@ -129,11 +129,15 @@ module _ (g : ℕ → Bool) (n : ℕ) where
 
 -- ---- families that agree
 
-pub maximals_same : (f g : ℕ → Bool) (n : ℕ) → ((k : ℕ) → k < 2 ^ n → f k ≡ g k) → maximals f n ≡ maximals g n
-unfolding maximals is_maximal is_covered_by
-maximals_same f g n h =
-    those_below_same (is_maximal f n) (is_maximal g n) (2 ^ n)
-    (λ m l. rw (h m l, some_below_same (λ (s : ℕ). f s && is_beyond m s) (λ (s : ℕ). g s && is_beyond m s) (2 ^ n) (λ s i. rw (h s i))))
+module _ (f g : ℕ → Bool) (n : ℕ) (agree : (k : ℕ) → k < 2 ^ n → f k ≡ g k) where
+  pub is_maximal_same : (m : ℕ) → m < 2 ^ n → is_maximal f n m ≡ is_maximal g n m
+  unfolding is_maximal is_covered_by
+  is_maximal_same m l =
+      rw (agree m l, some_below_same (λ (s : ℕ). f s && is_beyond m s) (λ (s : ℕ). g s && is_beyond m s) (2 ^ n) (λ s i. rw (agree s i)))
+
+  pub maximals_same : maximals f n ≡ maximals g n
+  unfolding maximals
+  maximals_same = those_below_same (is_maximal f n) (is_maximal g n) (2 ^ n) is_maximal_same
 
 -- ---- a table that flags the maximal members alone lists them
 

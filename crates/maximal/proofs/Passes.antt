@@ -139,9 +139,6 @@ module _ (before : List ℕ) where
     abbrev pub Done : List ℕ → ℕ → Type 0
     Done after k = (m : ℕ) → m / 64 < k → flagged after m ≡ (flagged before m || is_shown before m b)
 
-    pub none_done : Done before 0
-    none_done m h = absurd (omega arith)
-
     module _ (after : List ℕ) (k : ℕ) (done : Done after k) (left : Left after k) where
       module _ (w : ℕ) (inside : k < length after) (shows : Shows b after k w) where
         pub one_done : Done (set after k (bit_or (get_or after k 0) w)) (k + 1)
@@ -176,9 +173,6 @@ module _ (before : List ℕ) where
     abbrev pub Kept : List ℕ → ℕ → Type 0
     Kept after k = (m : ℕ) → m / 64 < k → flagged after m ≡ is_top n before m
 
-    pub none_kept : Kept before 0
-    none_kept m h = absurd (omega arith)
-
     module _ (after : List ℕ) (k : ℕ) (done : Kept after k) (left : Left after k) where
       module _ (w : ℕ) (inside : k < length after) (tops : Tops n after k w) where
         pub one_kept : Kept (set after k w) (k + 1)
@@ -212,9 +206,15 @@ module _ (table : List ℕ) (k : ℕ) where
   unfolding some_below
   seen_none m e = rw (bit_none (m % 64))
 
-  pub seen_more : (b c w : ℕ) → Seen b c → Shows b table k w → Seen (b + 1) (bit_or w c)
+  pub seen_more : (b c w : ℕ) → Seen b c → Shows b table k w → Seen (b + 1) (bit_or c w)
   unfolding some_below Shows
-  seen_more b c w s h m e = has_or w c (m % 64) ∙ rw (h m e, s m e, add-one)
+  seen_more b c w s h m e = has_or c w (m % 64) ∙ rw (h m e, s m e, add-one) (swapped (some_below (is_shown table m) b) (is_shown table m b))
+    where
+      swapped : (x y : Bool) → (x || y) ≡ (y || x)
+      swapped true true = refl
+      swapped true false = refl
+      swapped false true = refl
+      swapped false false = refl
 
   pub seen_all : (n b c : ℕ) → b ≤ n → n ≤ b → Seen b c → Tops n table k (bit_xor (get_or table k 0) (bit_and (get_or table k 0) c))
   unfolding Tops flagged

@@ -7,27 +7,33 @@ ghost use Rattle.std.specs.Int.Bits.{bit_and};
 ghost use Rattle.bitmap.specs.Mask.{mask_below};
 ghost use Rattle.marks.specs.Marks.{flagged};
 ghost use Rattle.maximal.specs.Maximal.{is_maximal};
-ghost use Rattle.maximal.specs.Tables.{Flags, is_within, is_lacking, Shows, Spread, Tops, Peeled};
+ghost use Rattle.maximal.specs.Tables.{Flags, is_lacking, Shows, Spread, Tops, Peeled};
 
-// Leaves flagged the maximal members alone of the family that the table flags.
-pub fn keep(table: &mut [u64], n: usize)
-    requires { n ≤ 16 }
-    ensures { Flags n (is_maximal (flagged table.old) n) table.new }
-{
-    close(table, n);
-    peel(table, n);
-}
+use marks::Marks;
 
-// Flags each part of a member too. After the pass over the replica b those parts are flagged that lack replicas up to b alone.
-fn close(table: &mut [u64], n: usize)
-    requires { n ≤ 16 }
-    ensures { Flags n (is_within (flagged table.old) n) table.new }
+// The numbers below 64 that lack the bit b, at the place b.
+const LACKING: [u64; 6] = [
+    0x5555_5555_5555_5555,
+    0x3333_3333_3333_3333,
+    0x0f0f_0f0f_0f0f_0f0f,
+    0x00ff_00ff_00ff_00ff,
+    0x0000_ffff_0000_ffff,
+    0x0000_0000_ffff_ffff,
+];
+
+// Leaves flagged the maximal members alone of the family that the table flags. First each part of a member is flagged too: after the pass
+// over the replica b those parts are that lack replicas up to b alone.
+pub fn keep<const WORDS: usize>(marks: &mut Marks<WORDS>)
+    ensures flags { Flags marks.old.replicas (is_maximal (flagged marks.old.words) marks.old.replicas) marks.new.words }
+    ensures replicas { marks.new.replicas ≡ marks.old.replicas }
 {
-    let mut b: usize = 0;
-    while b < n {
+    let n = marks.replicas;
+    let used = marks.used();
+    let table = &mut marks.words[..used];
+    for b in 0..n {
         spread(table, b);
-        b += 1;
     }
+    peel(table, n);
 }
 
 // Flags each set too that lacks the replica b, and with it is flagged. It goes upward, so that a word further up is read before it is
@@ -36,11 +42,9 @@ fn spread(table: &mut [u64], b: usize)
     requires { b < 16 }
     ensures { Spread b table.old table.new }
 {
-    let mut k: usize = 0;
-    while k < table.len() {
+    for k in 0..table.len() {
         let w = shown(table, b, k);
-        table[k] = table[k] | w;
-        k += 1;
+        table[k] |= w;
     }
 }
 
@@ -49,34 +53,30 @@ fn peel(table: &mut [u64], n: usize)
     requires { n ≤ 16 }
     ensures { Peeled n table.old table.new }
 {
-    let mut k: usize = 0;
-    while k < table.len() {
+    for k in 0..table.len() {
         let w = tops(table, n, k);
         table[k] = w;
-        k += 1;
     }
 }
 
 // Those of the 64 sets of the word k that are flagged, and are so with no replica that they lack.
 fn tops(table: &[u64], n: usize, k: usize) -> u64
-    requires n_bound { n ≤ 16 }
-    requires k_in_bounds { k < length table.now }
+    requires few { n ≤ 16 }
+    requires inside { k < length table.now }
     ensures { Tops n table.now k result }
 {
-    let mut c: u64 = 0;
-    let mut b: usize = 0;
-    while b < n {
-        c = shown(table, b, k) | c;
-        b += 1;
+    let mut covered = 0u64;
+    for b in 0..n {
+        covered |= shown(table, b, k);
     }
-    table[k] ^ (table[k] & c)
+    table[k] ^ (table[k] & covered)
 }
 
 // Those of the 64 sets of the word k that lack the replica b, and with it are flagged. The set with a replica below 6 is in the same word;
 // that with another is at the same place in a word further up.
 fn shown(table: &[u64], b: usize, k: usize) -> u64
-    requires b_bound { b < 16 }
-    requires k_in_bounds { k < length table.now }
+    requires few { b < 16 }
+    requires inside { k < length table.now }
     ensures { Shows b table.now k result }
 {
     if b < 6 {
@@ -97,28 +97,5 @@ fn near(w: u64, b: usize) -> u64
     requires { b < 6 }
     ensures { result ≡ bit_and (w / 2 ^ (2 ^ b)) (mask_below (is_lacking b) 64) }
 {
-    (w >> (1usize << b)) & lacking(b)
-}
-
-// The numbers below 64 that lack the bit b.
-fn lacking(b: usize) -> u64
-    requires { b < 6 }
-    ensures { result ≡ mask_below (is_lacking b) 64 }
-{
-    if b == 0 {
-        return 0x5555_5555_5555_5555;
-    }
-    if b == 1 {
-        return 0x3333_3333_3333_3333;
-    }
-    if b == 2 {
-        return 0x0f0f_0f0f_0f0f_0f0f;
-    }
-    if b == 3 {
-        return 0x00ff_00ff_00ff_00ff;
-    }
-    if b == 4 {
-        return 0x0000_ffff_0000_ffff;
-    }
-    0x0000_0000_ffff_ffff
+    (w >> (1usize << b)) & LACKING[b]
 }

@@ -1,11 +1,9 @@
--- What `read_each` says: the first fault from the left decides, and what each step keeps is kept. And one step of it at a part of a text. Assumes nothing.
+-- What `read_each` says: the first fault from the left decides, and what each step keeps is kept. And one step of it in a loop. Assumes nothing.
 use Rattle.std.proofs.Math.Path.{◌≡◌, refl, sym, ap, subst}
 use Rattle.std.proofs.Common.{◌∙◌, arith}
-use Rattle.std.specs.Prelude.{◌↔◌, ℕ, ◌+◌, length, drop}
+use Rattle.std.specs.Prelude.{◌↔◌, ℕ}
 use mathlib.Core.List.{List, [], ◌∷◌, ◌++◌}
 use Rattle.refusals.specs.Outcome.{Outcome, refused, accepted, and_then}
-use Rattle.numerals.specs.Text.{split}
-use Rattle.numerals.specs.TextLaws.{later, PartOf, part_head, part_last, part_more}
 use Rattle.numerals.specs.Read.{read_each}
 
 -- ---- the first fault
@@ -61,18 +59,17 @@ module _ {A B : Type 0} (P : A → Type 0) (step : A → B → Outcome A) (keeps
       go (refused k) q ih e = let z : ◌≡◌ {A = ℕ} 0 1 = cc in absurd (omega arith)
       go (accepted x) q ih e = ih x (keeps a x p h q) e
 
--- ---- a loop over the parts between the bytes x, at the part q, with a read so far; W is what the whole text is read to
-module _ {A : Type 0} (step : A → List ℕ → Outcome A) (a : A) {W : Outcome A} {p x : ℕ} {s q : List ℕ} (inv : W ≡ read_each step a (split x (drop p s))) (h : PartOf s p x q) where
-  first : W ≡ and_then (step a q) (λ b. read_each step b (later x (drop p s)))
+-- ---- a loop over parts, with a read so far and ps left: W is what all of them are read to
+module _ {A B : Type 0} (step : A → B → Outcome A) (a : A) {W : Outcome A} {ps : List B} (inv : W ≡ read_each step a ps) where
+  module _ {q : B} {rest : List B} (h : ps ≡ q ∷ rest) where
+    pub read_refused : {k : ℕ} → step a q ≡ refused k → refused k ≡ W
+    unfolding read_each
+    read_refused e = sym (inv ∙ rw (h, e))
+
+    pub read_next : {b : A} → step a q ≡ accepted b → W ≡ read_each step b rest
+    unfolding read_each
+    read_next e = inv ∙ rw (h, e)
+
+  pub read_ended : ps ≡ [] → accepted a ≡ W
   unfolding read_each
-  first = inv ∙ rw (part_head h)
-
-  pub read_refused : {k : ℕ} → step a q ≡ refused k → refused k ≡ W
-  read_refused e = sym (first ∙ rw e)
-
-  pub read_last : {b : A} → step a q ≡ accepted b → p + length q ≡ length s → accepted b ≡ W
-  unfolding read_each
-  read_last e l = sym (first ∙ rw (e, part_last h l))
-
-  pub read_more : {b : A} → step a q ≡ accepted b → (p + length q ≡ length s → ⊥) → W ≡ read_each step b (split x (drop (p + length q + 1) s))
-  read_more e l = first ∙ rw (e, part_more h l)
+  read_ended h = sym (inv ∙ rw h)

@@ -3,5 +3,6 @@ pub mod Quoted
 pub mod Text
 pub mod TextLaws
 pub mod SplitLaws
+pub mod Parts
 pub mod Read
 pub mod Whole

@@ -1,6 +1,6 @@
 -- What `split` means: the parts joined by x are the text again, and x stands in none of them. Assumes nothing.
-use Rattle.std.specs.Prelude.{◌≡◌, refl, Bool, true, false, cond, List, [], ◌∷◌, ◌++◌, ℕ, eqb}
-use Rattle.std.proofs.Common.{◌∙◌, eqb-true}
+use Rattle.std.specs.Prelude.{◌≡◌, refl, Bool, true, false, cond, List, [], ◌∷◌, ◌++◌, ℕ, suc, ◌+◌, ◌≤◌, eqb, length}
+use Rattle.std.proofs.Common.{◌∙◌, arith, eqb-true}
 use Rattle.lists.specs.All.{AllOf}
 use Rattle.numerals.specs.Text.{has_byte, push, split}
 
@@ -54,3 +54,17 @@ apart x (b ∷ bs) = go (eqb b x) refl (split x bs) (apart x bs)
     go true e ps h = (refl, h)
     go false e [] h = (rw e, tt)
     go false e (p ∷ ps) h = (rw e h.0, h.1)
+
+-- there is at most one part more than there are bytes
+push_le : (b n : ℕ) (ps : List (List ℕ)) → length ps ≤ n + 1 → length (push b ps) ≤ suc n + 1
+push_le b n [] h = omega arith
+push_le b n (p ∷ ps) h = omega arith
+
+pub split_le : (x : ℕ) (s : List ℕ) → length (split x s) ≤ length s + 1
+unfolding split
+split_le x [] = omega arith
+split_le x (b ∷ bs) = go (eqb b x) (split_le x bs)
+  where
+    go : (t : Bool) → length (split x bs) ≤ length bs + 1 → length (cond t ([] ∷ split x bs) (push b (split x bs))) ≤ suc (length bs) + 1
+    go true h = omega arith
+    go false h = push_le b (length bs) (split x bs) h

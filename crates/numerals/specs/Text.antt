@@ -1,6 +1,6 @@
 -- A text is a list of bytes: what refuses one, its blanks, and its parts between separators. Assumes nothing.
 use Rattle.std.specs.Prelude.{Bool, true, false, cond, ◌&&◌, ◌||◌, List, [], ◌∷◌, reverse, ℕ, suc, ◌+◌, leb, ltb, eqb, length, take, drop}
-use Rattle.lists.specs.All.{all, any}
+use Rattle.std.specs.List.{list_all, list_any}
 
 -- a byte below 128
 abbrev pub is_ascii : ℕ → Bool
@@ -8,7 +8,7 @@ is_ascii b = ltb b 128
 
 -- at most so many bytes, all below 128
 unfoldable pub is_text : ℕ → List ℕ → Bool
-is_text most s = leb (length s) most && all is_ascii s
+is_text most s = leb (length s) most && list_all is_ascii s
 
 -- no byte at all
 abbrev pub is_empty : List ℕ → Bool
@@ -62,7 +62,7 @@ cut x s = cut_by (is_byte x) s
 
 -- x stands in it
 abbrev pub has_byte : ℕ → List ℕ → Bool
-has_byte x s = any (is_byte x) s
+has_byte x s = list_any (is_byte x) s
 
 -- what stands before the first x, and what stands after it: all of it, and nothing, where there is none
 abbrev pub before : ℕ → List ℕ → List ℕ

@@ -5,7 +5,7 @@ use Rattle.std.proofs.Math.Bool.{and-eq-true_iff}
 use Rattle.std.proofs.Math.Decide.{dec_lt}
 use Rattle.std.proofs.Math.ListN.{length, length-drop}
 use Rattle.std.proofs.Math.Seq.{take-length}
-use Rattle.lists.specs.All.{all, any}
+use Rattle.std.specs.List.{list_all, list_any}
 use Rattle.lists.specs.AllLaws.{all_means}
 use Rattle.numerals.specs.Text.{is_ascii, is_text, cut_by, is_byte, cut, push, split}
 
@@ -17,10 +17,10 @@ pub text_means : (most : ℕ) (s : List ℕ) → (is_text most s ≡ true) ↔ A
 unfolding is_text
 text_means most s = (
   λ e.
-      let p = (and-eq-true_iff (leb (length s) most) (all is_ascii s)).0 e in
+      let p = (and-eq-true_iff (leb (length s) most) (list_all is_ascii s)).0 e in
       (leb-true (length s) most p.0, λ i h. ltb-true (get_or s i 0) 128 ((all_means is_ascii 0 s).0 p.1 i h)),
   λ h.
-      (and-eq-true_iff (leb (length s) most) (all is_ascii s)).1
+      (and-eq-true_iff (leb (length s) most) (list_all is_ascii s)).1
       (le-leb (length s) most h.0, (all_means is_ascii 0 s).1 (λ i l. lt-ltb (get_or s i 0) 128 (h.1 i l))),
 )
 
@@ -41,18 +41,18 @@ suc_ltb a b = go (dec_lt a b)
     go (no h) = rw (le-ltb a b (omega arith), le-ltb (suc a) (suc b) (omega arith))
 
 -- a byte that passes stands where the text has not ended
-pub any_cut : (p : ℕ → Bool) (s : List ℕ) → any p s ≡ ltb (cut_by p s) (length s)
+pub any_cut : (p : ℕ → Bool) (s : List ℕ) → list_any p s ≡ ltb (cut_by p s) (length s)
 unfolding cut_by
 any_cut p [] = refl
 any_cut p (b ∷ bs) = go (p b) (any_cut p bs)
   where
-    go : (t : Bool) → any p bs ≡ ltb (cut_by p bs) (length bs) → (t || any p bs) ≡ ltb (cond t 0 (suc (cut_by p bs))) (suc (length bs))
+    go : (t : Bool) → list_any p bs ≡ ltb (cut_by p bs) (length bs) → (t || list_any p bs) ≡ ltb (cond t 0 (suc (cut_by p bs))) (suc (length bs))
     go true e = sym (lt-ltb 0 (suc (length bs)) (omega arith))
     go false e = e ∙ suc_ltb (cut_by p bs) (length bs)
 
 -- ---- the last part, and a part with more after it
 
-split_last : (x : ℕ) (s : List ℕ) → cut x s ≡ length s → split x s ≡ s ∷ []
+pub split_last : (x : ℕ) (s : List ℕ) → cut x s ≡ length s → split x s ≡ s ∷ []
 unfolding cut_by split
 split_last x [] e = refl
 split_last x (b ∷ bs) e = go (eqb b x) e (split_last x bs)
@@ -61,7 +61,7 @@ split_last x (b ∷ bs) e = go (eqb b x) e (split_last x bs)
     go true q ih = absurd (omega arith)
     go false q ih = rw (ih (omega arith))
 
-split_more : (x : ℕ) (s : List ℕ) → cut x s < length s → split x s ≡ take (cut x s) s ∷ split x (drop (cut x s + 1) s)
+pub split_more : (x : ℕ) (s : List ℕ) → cut x s < length s → split x s ≡ take (cut x s) s ∷ split x (drop (cut x s + 1) s)
 unfolding cut_by split
 split_more x [] h = absurd (omega arith)
 split_more x (b ∷ bs) h = rw add-one (go (eqb b x) h (split_more x bs))
@@ -75,7 +75,7 @@ split_more x (b ∷ bs) h = rw add-one (go (eqb b x) h (split_more x bs))
 unfoldable pub later : ℕ → List ℕ → List (List ℕ)
 later x s = cond (eqb (cut x s) (length s)) [] (split x (drop (cut x s + 1) s))
 
-split_head : (x : ℕ) (s : List ℕ) → split x s ≡ take (cut x s) s ∷ later x s
+pub split_head : (x : ℕ) (s : List ℕ) → split x s ≡ take (cut x s) s ∷ later x s
 unfolding later
 split_head x s = ⊎_elim
     (λ (e : cut x s ≡ length s). split_last x s e ∙ simp (eq-eqb _ _ e) (rw (e, take-length)))

@@ -1,18 +1,11 @@
 -- Whole numbers, and lists of them as masks. Assumes nothing.
 use Rattle.std.specs.Prelude.{Bool, cond, ◌&&◌, not, List, [], ◌∷◌, ℕ, ◌+◌, ◌-◌, ◌*◌, leb, ltb}
-use Rattle.lists.specs.All.{all}
+use Rattle.std.specs.List.{list_all}
 use Rattle.bitmap.specs.Mask.{with_bit}
-use Rattle.rows.specs.Row.{row_of}
 use Rattle.refusals.specs.Numbers.{NUMERAL, MEMBER}
 use Rattle.refusals.specs.Outcome.{Outcome, refused, accepted, and_then}
 use Rattle.numerals.specs.Text.{is_empty, trim, without, is_byte, split}
 use Rattle.numerals.specs.Read.{read_each}
-use Rattle.numerals.specs.declared.Whole.{Whole}
-use Rattle.numerals.specs.declared.Whole.TheVariants as Wholes
-use Rattle.numerals.specs.declared.Members.{Members}
-use Rattle.numerals.specs.declared.Members.TheVariants as Memberships
-use Rattle.numerals.specs.declared.Shards.{Shards}
-use Rattle.numerals.specs.declared.Shards.TheVariants as Shardings
 
 -- ---- digits
 
@@ -21,7 +14,7 @@ is_digit b = leb 48 b && leb b 57
 
 -- one or more digits
 unfoldable pub is_digits : List ℕ → Bool
-is_digits s = not (is_empty s) && all is_digit s
+is_digits s = not (is_empty s) && list_all is_digit s
 
 -- the number that digits spell after digits that are worth v
 unfoldable pub spelt : ℕ → List ℕ → ℕ
@@ -55,17 +48,3 @@ member_in trims limit m p = and_then (member_of trims limit p) (λ v. accepted (
 -- all of them, as a mask of replicas or a row of shards: a number of any width
 unfoldable pub members_of : Bool → ℕ → List ℕ → Outcome ℕ
 members_of trims limit s = read_each (member_in trims limit) 0 (split 44 s)
-
--- ---- what the answers are
-
-abbrev pub whole : Whole → Outcome ℕ
-whole (Wholes.Refused k) = refused k
-whole (Wholes.Value v) = accepted v
-
-abbrev pub members : Members → Outcome ℕ
-members (Memberships.Refused k) = refused k
-members (Memberships.Mask m) = accepted m
-
-abbrev pub shards : Shards → Outcome ℕ
-shards (Shardings.Refused k) = refused k
-shards (Shardings.Row row) = accepted (row_of row)

@@ -1,131 +1,85 @@
 // Texts: the scanning that all of them share, and whole numbers.
 #![tactic(auto)]
 
-ghost use Rattle.std.specs.Prelude.{◌≡◌, ◌+◌, ◌≤◌, length, take, drop};
-ghost use Rattle.lists.specs.All.{all};
-ghost use Rattle.numerals.specs.Text.{is_text, is_ascii, is_same, is_blank, trim_start, trim_end, trim, cut, has_byte};
+ghost use Rattle.std.specs.Prelude.{◌≡◌, ◌+◌, ◌≤◌, List, ℕ, length, take, drop};
+ghost use Rattle.std.specs.Iterator.{YieldsFirstBy, item_count};
+ghost use Rattle.std.specs.List.{list_all};
+ghost use Rattle.rows.specs.Row.{row_of};
+ghost use Rattle.refusals.specs.Refused.{outcome_of, outcome_by};
+ghost use Rattle.numerals.specs.Text.{is_text, is_ascii, is_same, is_blank, trim_start, trim_end, trim, cut, has_byte, split};
 ghost use Rattle.numerals.specs.TextLaws.{PartOf};
-ghost use Rattle.numerals.specs.Whole.{is_digit, is_digits, unplussed, whole_of, below_of, member_of, members_of, whole, members, shards};
+ghost use Rattle.numerals.specs.Parts.{parts_left};
+ghost use Rattle.numerals.specs.Whole.{is_digit, is_digits, unplussed, whole_of, below_of, member_of, members_of};
 
-use rows::{Row, ShardId};
-
-// A whole number, or the number of its fault.
-#[derive(Clone, Copy)]
-pub enum Whole {
-    Refused(u8),
-    Value(usize),
-}
-
-// The mask of a list of replicas, or the number of its first fault.
-#[derive(Clone, Copy)]
-pub enum Members {
-    Refused(u8),
-    Mask(u64),
-}
-
-// The row of a list of shards, or the number of its first fault.
-#[derive(Clone, Copy)]
-pub enum Shards {
-    Refused(u8),
-    Row(Row),
-}
+use refusals::Refusal;
+use rows::{Row, ShardId, ShardSet};
+use std::marker::Model;
 
 // Whether s has at most so many bytes, all below 128.
 pub fn is_text(s: &[u8], most: usize) -> bool
     ensures { result ≡ is_text most s.now }
 {
-    if most < s.len() {
-        return false;
-    }
-    all_ascii(s)
+    s.len() <= most && all_ascii(s)
 }
 
 // A whole number: an optional + and one or more digits, of a value of at most 255.
-pub fn read_whole(s: &[u8]) -> Whole
-    ensures { whole result ≡ whole_of s.now }
+pub fn read_whole(s: &[u8]) -> Result<usize, Refusal>
+    ensures { outcome_of result ≡ whole_of s.now }
 {
     let u = unplussed(s);
-    if u.len() == 0 {
-        return Whole::Refused(refusals::NUMERAL);
+    if u.is_empty() {
+        return Err(Refusal::Numeral);
     }
-    let mut v: usize = 0;
-    let mut i = 0;
-    while i < u.len() {
-        let b = u[i];
-        if b < b'0' {
-            return Whole::Refused(refusals::NUMERAL);
+    let mut v = 0;
+    for b in u {
+        if !is_digit(*b) {
+            return Err(Refusal::Numeral);
         }
-        if b'9' < b {
-            return Whole::Refused(refusals::NUMERAL);
-        }
-        v = v * 10 + wide(b - b'0');
+        v = v * 10 + usize::from(*b - b'0');
         if 255 < v {
-            return Whole::Refused(refusals::NUMERAL);
+            return Err(Refusal::Numeral);
         }
-        i += 1;
     }
-    Whole::Value(v)
+    Ok(v)
 }
 
 // A whole number below the limit.
-pub fn read_below(s: &[u8], limit: usize) -> Whole
-    ensures { whole result ≡ below_of limit s.now }
+#[tactic(auto, unfolding(crate::specs::Whole::below_of))]
+pub fn read_below(s: &[u8], limit: usize) -> Result<usize, Refusal>
+    ensures { outcome_of result ≡ below_of limit s.now }
 {
-    let w = read_whole(s);
-    match w {
-        Whole::Refused(no) => Whole::Refused(no),
-        Whole::Value(v) => {
-            if v < limit {
-                return Whole::Value(v);
-            }
-            Whole::Refused(refusals::MEMBER)
-        }
-    }
+    let v = read_whole(s)?;
+    refusals::unless(v < limit, Refusal::Member)?;
+    Ok(v)
 }
 
 // The numbers between commas, each below the limit, as a mask. A part: a word has room for numbers below 64.
-pub fn read_members(s: &[u8], trims: bool, limit: usize) -> Members
+pub fn read_members(s: &[u8], trims: bool, limit: usize) -> Result<u64, Refusal>
     requires { limit ≤ 64 }
-    ensures { members result ≡ members_of trims limit s.now }
+    ensures { outcome_of result ≡ members_of trims limit s.now }
 {
-    match read_shards(s, trims, limit) {
-        Shards::Refused(no) => Members::Refused(no),
-        Shards::Row(row) => Members::Mask(row.w0),
-    }
+    Ok(read_shards(s, trims, limit)?.w0)
 }
 
-// The same as a row. A part: a row has room for numbers below 256.
-pub fn read_shards(s: &[u8], trims: bool, limit: usize) -> Shards
+// The same as a row. A part: a row has room for numbers below 256. Inlined, so that no caller reads the row back from memory.
+#[inline]
+pub fn read_shards(s: &[u8], trims: bool, limit: usize) -> Result<Row, Refusal>
     requires { limit ≤ 256 }
-    ensures { shards result ≡ members_of trims limit s.now }
+    ensures { outcome_by row_of result ≡ members_of trims limit s.now }
 {
-    let mut row = rows::none();
-    let mut p: usize = 0;
-    loop {
-        let q = part(s, p, b',');
-        match read_member(q, trims, limit) {
-            Whole::Refused(no) => {
-                return Shards::Refused(no);
-            }
-            Whole::Value(v) => {
-                row = rows::with_shard(row, ShardId(v));
-            }
-        }
-        p = p + q.len();
-        if p == s.len() {
-            return Shards::Row(row);
-        }
-        p += 1;
+    let mut row = Row::none();
+    for q in split(s, b',') {
+        let v = read_member(q, trims, limit)?;
+        row = row.with(ShardId(v));
     }
+    Ok(row)
 }
 
-fn read_member(s: &[u8], trims: bool, limit: usize) -> Whole
-    ensures { whole result ≡ member_of trims limit s.now }
+#[tactic(auto, unfolding(crate::specs::Whole::member_of))]
+fn read_member(s: &[u8], trims: bool, limit: usize) -> Result<usize, Refusal>
+    ensures { outcome_of result ≡ member_of trims limit s.now }
 {
-    if trims {
-        return read_below(trimmed(s), limit);
-    }
-    read_below(s, limit)
+    read_below(if trims { trimmed(s) } else { s }, limit)
 }
 
 // s without the blanks at its ends.
@@ -136,21 +90,77 @@ pub fn trimmed(s: &[u8]) -> &[u8]
     upto(t, stop(t))
 }
 
+// Where the blanks at the start of s end.
+fn lead(s: &[u8]) -> usize
+    ensures { (result ≤ length s.now) × (drop result s.now ≡ trim_start s.now) }
+{
+    s.iter().position(|b| !is_blank(*b)).unwrap_or(s.len())
+}
+
+// Where the blanks at the end of s begin.
+fn stop(s: &[u8]) -> usize
+    ensures { (result ≤ length s.now) × (take result s.now ≡ trim_end s.now) }
+{
+    s.len()
+        - s.iter()
+            .rev()
+            .position(|b| !is_blank(*b))
+            .unwrap_or(s.len())
+}
+
+pub fn is_blank(b: u8) -> bool
+    ensures { result ≡ is_blank b }
+{
+    (9 <= b && b <= 13) || b == 32
+}
+
 // Whether s and t are the same bytes.
 pub fn same(s: &[u8], t: &[u8]) -> bool
     ensures { result ≡ is_same s.now t.now }
 {
-    if s.len() != t.len() {
-        return false;
+    s == t
+}
+
+// The parts of s between the bytes x, from the left: one more than there are x.
+pub fn split(s: &[u8], x: u8) -> Parts<'_>
+    ensures { result ≡ split x s.now }
+{
+    Parts {
+        separator: x,
+        rest: Some(s),
     }
-    let mut i = 0;
-    while i < s.len() {
-        if s[i] != t[i] {
-            return false;
+}
+
+// The parts that are left of a text: those of its rest, and none once the last of them was given.
+#[derive(Drop)]
+pub struct Parts<'a> {
+    separator: u8,
+    rest: Option<&'a [u8]>,
+}
+
+impl<'a> Model for Parts<'a> {
+    ghost Value = { List (List ℕ) };
+
+    ghost view = { λ parts. parts_left parts.separator parts.rest };
+}
+
+impl<'a> Iterator for Parts<'a> {
+    type Item = &'a [u8];
+
+    ghost next_gives = { YieldsFirstBy (λ q. q.now) (λ parts. parts) };
+
+    ghost remaining = { item_count (λ parts. parts) };
+
+    fn next(&mut self) -> Option<&'a [u8]> {
+        let s = self.rest?;
+        let end = find(s, self.separator);
+        if end == s.len() {
+            self.rest = None;
+            return Some(s);
         }
-        i += 1;
+        self.rest = Some(after(s, end + 1));
+        Some(upto(s, end))
     }
-    true
 }
 
 // The part of s from p up to the next x, or the end.
@@ -162,44 +172,34 @@ pub fn part(s: &[u8], p: usize, x: u8) -> &[u8]
     upto(rest, find(rest, x))
 }
 
-// Where the first x of s stands, or the length of s.
+// Where the first x of s stands, or the length of s: past the blocks of 16 bytes that have none.
 pub fn find(s: &[u8], x: u8) -> usize
     ensures { result ≡ cut x s.now }
 {
-    let mut i = skip(s, x);
-    while i < s.len() {
-        if s[i] == x {
-            return i;
+    let mut rest = s;
+    while let Some((block, tail)) = rest.split_first_chunk::<16>() {
+        if has(block, x) {
+            break;
         }
-        i += 1;
+        rest = tail;
     }
-    i
+    s.len() - rest.len() + place(rest, x)
 }
 
-// Past the blocks of 16 bytes at the start of s that have no x.
-fn skip(s: &[u8], x: u8) -> usize
-    ensures { (result ≤ length s.now) × (cut x s.now ≡ result + cut x (drop result s.now)) }
+// The same, byte by byte.
+fn place(s: &[u8], x: u8) -> usize
+    ensures { result ≡ cut x s.now }
 {
-    let mut i = 0;
-    while 16 <= s.len() - i {
-        if has(s, i, x) {
-            return i;
-        }
-        i += 16;
-    }
-    i
+    s.iter().position(|b| *b == x).unwrap_or(s.len())
 }
 
-// Whether x is one of the 16 bytes from i on. It ends at none of them early, so that all are compared at once.
-fn has(s: &[u8], i: usize, x: u8) -> bool
-    requires { i + 16 ≤ length s.now }
-    ensures { result ≡ has_byte x (take 16 (drop i s.now)) }
+// Whether x is one of the bytes. It ends at none of them early, so that all are compared at once.
+fn has(block: &[u8; 16], x: u8) -> bool
+    ensures { result ≡ has_byte x block.now }
 {
     let mut hit = false;
-    let mut j = 0;
-    while j < 16 {
-        hit = hit | (s[i + j] == x);
-        j += 1;
+    for b in block {
+        hit = hit | (*b == x);
     }
     hit
 }
@@ -226,34 +226,17 @@ pub fn past(s: &[u8], c: usize) -> &[u8]
     ensures { result.now ≡ drop (c + 1) s.now }
 {
     if c == s.len() {
-        return after(s, c);
+        after(s, c)
+    } else {
+        after(s, c + 1)
     }
-    after(s, c + 1)
 }
 
 // Whether s is one or more digits.
 pub fn is_digits(s: &[u8]) -> bool
     ensures { result ≡ is_digits s.now }
 {
-    if s.len() == 0 {
-        return false;
-    }
-    all_digits(s)
-}
-
-// Whether every byte of s is a digit.
-fn all_digits(s: &[u8]) -> bool
-    ensures { result ≡ all is_digit s.now }
-{
-    let mut i = 0;
-    while i < s.len() {
-        if is_digit(s[i]) {
-            i += 1;
-        } else {
-            return false;
-        }
-    }
-    true
+    !s.is_empty() && s.iter().all(|b| is_digit(*b))
 }
 
 pub fn is_digit(b: u8) -> bool
@@ -262,34 +245,23 @@ pub fn is_digit(b: u8) -> bool
     b'0' <= b && b <= b'9'
 }
 
-fn wide(x: u8) -> usize
-    ensures { result ≡ x }
-{
-    x as usize
-}
-
 // s without a + at its start.
 fn unplussed(s: &[u8]) -> &[u8]
     ensures { result.now ≡ unplussed s.now }
 {
-    if s.len() == 0 {
-        return s;
+    match s {
+        [b'+', rest @ ..] => rest,
+        _ => s,
     }
-    if s[0] == b'+' {
-        return after(s, 1);
-    }
-    s
 }
 
 // Whether every byte of s is below 128. It ends at none of them early, so that many are compared at once.
 fn all_ascii(s: &[u8]) -> bool
-    ensures { result ≡ all is_ascii s.now }
+    ensures { result ≡ list_all is_ascii s.now }
 {
     let mut ok = true;
-    let mut i = 0;
-    while i < s.len() {
-        ok = ok & is_ascii(s[i]);
-        i += 1;
+    for b in s {
+        ok = ok & is_ascii(*b);
     }
     ok
 }
@@ -298,47 +270,4 @@ fn is_ascii(b: u8) -> bool
     ensures { result ≡ is_ascii b }
 {
     b < 128
-}
-
-// Where the blanks at the start of s end.
-fn lead(s: &[u8]) -> usize
-    ensures { (result ≤ length s.now) × (drop result s.now ≡ trim_start s.now) }
-{
-    let mut i = 0;
-    while i < s.len() {
-        if is_blank(s[i]) {
-            i += 1;
-        } else {
-            return i;
-        }
-    }
-    i
-}
-
-// Where the blanks at the end of s begin.
-fn stop(s: &[u8]) -> usize
-    ensures { (result ≤ length s.now) × (take result s.now ≡ trim_end s.now) }
-{
-    let mut e = s.len();
-    while 0 < e {
-        let j = e - 1;
-        if is_blank(s[j]) {
-            e = j;
-        } else {
-            return e;
-        }
-    }
-    e
-}
-
-pub fn is_blank(b: u8) -> bool
-    ensures { result ≡ is_blank b }
-{
-    if b < 9 {
-        return false;
-    }
-    if b <= 13 {
-        return true;
-    }
-    b == 32
 }

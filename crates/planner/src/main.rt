@@ -6,10 +6,14 @@
 mod plan;
 mod print;
 
+use site::Description;
 use std::env::FillError;
 use std::fs::File;
 use std::io::{Read, Result};
 use std::rt::{Env, Files};
+
+// The most bytes of a description, and one more.
+const TOO_LONG: usize = 65536;
 
 fn main(rt: HostRuntime) -> Result<()> {
     if !named(&rt, 1)? {
@@ -24,8 +28,9 @@ fn main(rt: HostRuntime) -> Result<()> {
 }
 
 // The site of an argument, and whether there is one. A name that is longer than the buffer is no file's, and is not printed.
-fn named(rt: &(impl Env + Files + Input + Alloc), i: usize) -> Result<bool> {
-    let mut path = io::buffer();
+fn named(rt: &(impl Env + Files + Input + Alloc + Print), i: usize) -> Result<bool> {
+    // Kept as it is: a vector is no plainer, since std fills a lent buffer and answers the length.
+    let mut path = [0u8; 4096];
     match rt.arg(i, &mut path) {
         Err(FillError::NotPresent) => return Ok(false),
         Err(FillError::TooLong) => of_file(rt, b"")?,
@@ -34,18 +39,15 @@ fn named(rt: &(impl Env + Files + Input + Alloc), i: usize) -> Result<bool> {
     Ok(true)
 }
 
-fn of_file(rt: &(impl Files + Input + Alloc), path: &[u8]) -> Result<()> {
-    io::write_all(1, b"== ");
-    io::write_all(1, path);
-    io::write_all(1, b"\n");
-    if numerals::same(path, b"-") {
+fn of_file(rt: &(impl Files + Input + Alloc + Print), path: &[u8]) -> Result<()> {
+    print!(rt; "== ")?;
+    rt.write_all(path)?;
+    println!(rt; "")?;
+    if matches!(path, b"-") {
         return describe(rt, rt.reader());
     }
     match opened(rt, path) {
-        None => {
-            io::write_all(1, b"no such file\n");
-            Ok(())
-        }
+        None => println!(rt; "no such file"),
         Some(file) => describe(rt, file),
     }
 }
@@ -56,13 +58,11 @@ fn opened<R: Files>(rt: &R, path: &[u8]) -> Option<R::File> {
     File::open(rt, name).ok()
 }
 
-fn describe(rt: &impl Alloc, from: impl Read + Drop) -> Result<()> {
+fn describe(rt: &(impl Alloc + Print), from: impl Read + Drop) -> Result<()> {
     let mut text = Vec::new(rt.alloc());
-    let k = from.take(65536).read_to_end(&mut text)?;
-    if k == 65536 {
-        io::write_all(1, b"the description is longer than 65535 bytes\n");
-        return Ok(());
+    let k = from.take(TOO_LONG as u64).read_to_end(&mut text)?;
+    if k == TOO_LONG {
+        return println!(rt; "the description is longer than 65535 bytes");
     }
-    plan::plan(&text);
-    Ok(())
+    plan::plan(rt, Description(&text))
 }

@@ -1,147 +1,147 @@
 // A description's fault list, its plan and, where there is none, its full copies. The first entry that refuses ends it.
-use crate::print;
-use assignment::Pick;
+use crate::print::{Layout, Milliseconds};
+use assignment::Plan;
 use bitmap::ReplicaId;
-use faults::Listed;
-use layout::{Laid, TotalShards};
-use profile_text::Reading;
-use profiles::{Estimate, Profile};
+use printed::Members;
+use profiles::Profile;
+use site::{Description, Key, Name, PeerText};
+use site_check::Problem;
+use std::io;
 use times::{Peer, PeerRecord};
 
 // As many fault sets as there can be: any 8 of 16 replicas.
 const MOST_SETS: usize = 12870;
 
-pub fn plan(text: &[u8]) {
-    if !site_check::are_lines(text) {
-        return;
-    }
-    if !site_check::is_complete(text) {
-        return;
-    }
-    let n = site::number_of(text, b"population") as usize;
-    let r = profile_text::parse_profile(n, site::value_of(text, b"profile"));
-    let a = r.answer;
-    match a {
-        Reading::Refused(no) => {
-            site_check::refused(text, no);
-        }
-        Reading::Read => {
-            let p = r.profile;
-            let mut list = [0u64; MOST_SETS];
-            let mut rows = [0u64; 64];
-            survive(text, n, p, &mut list, &mut rows);
-        }
+// What ends a plan before its end.
+#[derive(Drop)]
+enum Stop<'a> {
+    Problem(Problem<'a>),
+    Output(io::Error),
+}
+
+impl<'a> From<Problem<'a>> for Stop<'a> {
+    fn from(problem: Problem<'a>) -> Self {
+        Stop::Problem(problem)
     }
 }
 
-// The fault list, and what follows it.
-fn survive(text: &[u8], n: usize, p: Profile, list: &mut [u64], rows: &mut [u64]) {
-    let f = site::number_of(text, b"tolerance") as usize;
-    match faults::fault_list(n, f, p, list) {
-        Listed::Refused(no) => {
-            site_check::refused(text, no);
-        }
-        Listed::Count(k) => {
-            listed(text, n, p, k, list, rows);
-        }
+impl<'a> From<io::Error> for Stop<'a> {
+    fn from(error: io::Error) -> Self {
+        Stop::Output(error)
     }
 }
 
-fn listed(text: &[u8], n: usize, p: Profile, k: usize, list: &[u64], rows: &mut [u64]) {
-    if list.len() < k {
-        return;
+// Prints the plan of a description, or what is wrong with it.
+pub fn plan(rt: &impl Print, description: Description<'_>) -> io::Result<()> {
+    match steps(rt, description) {
+        Ok(()) => Ok(()),
+        Err(Stop::Problem(problem)) => problem.print(rt),
+        Err(Stop::Output(error)) => Err(error),
     }
-    if rows.len() / 4 < n {
-        return;
-    }
-    let words = n * 4;
-    print::faults(&list[..k]);
-    if !site_check::are_peers(text, n) {
-        return;
-    }
-    pick(text, n, p, &list[..k], &mut rows[..words]);
 }
 
-fn pick(text: &[u8], n: usize, p: Profile, list: &[u64], rows: &mut [u64]) {
-    let own = site::number_of(text, b"own") as usize;
-    let d = site::number_of(text, b"data-shards") as usize;
-    let total = site::total_of(text);
-    match assignment::pick_assignment(
+fn steps<'a>(rt: &impl Print, description: Description<'a>) -> Result<(), Stop<'a>> {
+    site_check::check_lines(description)?;
+    if !site_check::is_complete(rt, description)? {
+        return Ok(());
+    }
+    let refused = |refusal| Problem::refused(description, refusal);
+    let n = description.number_of(Key::Population) as usize;
+    let text = description.value_of(Key::Profile);
+    let profile = profile_text::parse_profile(n, text).map_err(&refused)?;
+    let f = description.number_of(Key::Tolerance) as usize;
+    // Kept as it is: a vector is no plainer, since the entry fills a lent list and answers the count.
+    let mut list = [0u64; MOST_SETS];
+    let k = faults::fault_list(n, f, profile, &mut list).map_err(&refused)?;
+    let sets = &list[..k.min(MOST_SETS)];
+    print_sets(rt, sets)?;
+    site_check::check_peers(description, n)?;
+    let mut rows = [0u64; 64];
+    let words = n.min(16) * 4;
+    pick(rt, description, n, profile, sets, &mut rows[..words])
+}
+
+fn print_sets(rt: &impl Print, sets: &[u64]) -> io::Result<()> {
+    println!(rt; "fault sets {}", sets.len())?;
+    for set in sets {
+        println!(rt; "  {}", Members(*set))?;
+    }
+    Ok(())
+}
+
+fn pick<'a>(
+    rt: &impl Print,
+    description: Description<'a>,
+    n: usize,
+    profile: Profile,
+    sets: &[u64],
+    rows: &mut [u64],
+) -> Result<(), Stop<'a>> {
+    let refused = |refusal| Problem::refused(description, refusal);
+    let own = description.number_of(Key::Own) as usize;
+    let d = description.number_of(Key::DataShards) as usize;
+    let total = description.total();
+    let plan = assignment::pick_assignment(
         n,
         ReplicaId(own),
-        site::number_of(text, b"quorum") as usize,
+        description.number_of(Key::Quorum) as usize,
         d,
         total,
-        site::number_of(text, b"size"),
-        records(text, n, p),
-        site::float(site::value_of(text, b"penalty")),
-        list,
+        description.number_of(Key::Size),
+        std::array::from_fn(|i| record(description, n, ReplicaId(i), profile)),
+        description.float_of(Key::Penalty),
+        sets,
         rows,
-    ) {
-        Pick::Refused(no) => {
-            site_check::refused(text, no);
+    )
+    .map_err(&refused)?;
+    let width = match plan {
+        Some(Plan { time, width }) => {
+            println!(rt; "plan")?;
+            println!(rt; "  time {}", Milliseconds(time))?;
+            width
         }
-        Pick::NoPlan => {
-            io::write_all(1, b"none: at no time does a layout commit\n");
-            copies(text, n, own, d, total, rows);
+        None => {
+            println!(rt; "none: at no time does a layout commit")?;
+            let width = assignment::full_copies(n, d, total, rows).map_err(&refused)?;
+            println!(rt; "full copies")?;
+            width
         }
-        Pick::Planned { time, width } => {
-            io::write_all(1, b"plan\n");
-            print::time(time);
-            print::layout(own, width, rows);
-        }
+    };
+    print!(rt; "{}", Layout { own, width, rows })?;
+    Ok(())
+}
+
+// What the plan is told of a replica.
+fn record(
+    description: Description<'_>,
+    n: usize,
+    replica: ReplicaId,
+    profile: Profile,
+) -> PeerRecord {
+    match description.peer(replica.0 as u64) {
+        None => PeerRecord {
+            peer: Peer::Silent,
+            inflight: 0,
+        },
+        Some(said) => PeerRecord {
+            peer: heard(said, n, replica, profile),
+            inflight: said.in_flight(),
+        },
     }
 }
 
-fn copies(text: &[u8], n: usize, own: usize, d: usize, total: TotalShards, rows: &mut [u64]) {
-    match assignment::full_copies(n, d, total, rows) {
-        Laid::Refused(no) => {
-            site_check::refused(text, no);
-        }
-        Laid::Width(w) => {
-            io::write_all(1, b"full copies\n");
-            print::layout(own, w, rows);
-        }
-    }
-}
-
-// What the plan is told of each replica.
-fn records(text: &[u8], n: usize, p: Profile) -> [PeerRecord; 16] {
-    let mut told = [PeerRecord {
-        peer: Peer::Silent,
-        inflight: 0,
-    }; 16];
-    let mut i = 0;
-    while i < 16 {
-        told[i] = record(site::peer(text, i as u64), n, i, p);
-        i += 1;
-    }
-    told
-}
-
-// The record of a peer that s describes.
-fn record(s: &[u8], n: usize, i: usize, p: Profile) -> PeerRecord {
-    PeerRecord {
-        peer: heard(s, n, i, p),
-        inflight: site::in_flight(s),
-    }
-}
-
-// A peer that is not described, as our own controller need not be, is silent. No profile that was read is refused (`accepted_fits`).
-fn heard(s: &[u8], n: usize, i: usize, p: Profile) -> Peer {
-    if s.len() == 0 {
+// No profile that was read is refused (`accepted_fits`).
+fn heard(said: PeerText<'_>, n: usize, replica: ReplicaId, profile: Profile) -> Peer {
+    if said.is_silent() {
         return Peer::Silent;
     }
-    if site::is_silent(s) {
-        return Peer::Silent;
-    }
-    match profiles::unreliability(n, ReplicaId(i), p, site::float(site::field(s, b"downtime"))) {
-        Estimate::Refused(_) => Peer::Silent,
-        Estimate::Value(u) => Peer::Heard {
-            slope: site::float(site::field(s, b"slope")),
-            delay: site::float(site::field(s, b"delay")),
-            jitter: site::float(site::field(s, b"jitter")),
-            unreliability: u,
+    match profiles::unreliability(n, replica, profile, said.float(Name::Downtime)) {
+        Err(_) => Peer::Silent,
+        Ok(unreliability) => Peer::Heard {
+            slope: said.float(Name::Slope),
+            delay: said.float(Name::Delay),
+            jitter: said.float(Name::Jitter),
+            unreliability,
         },
     }
 }

@@ -1,50 +1,52 @@
-// What the programs print, on standard output, of the library's values.
+// How the programs print the library's values.
 #![tactic(auto)]
 
-use rows::{Row, ShardId};
+use rows::{Row, ShardId, ShardSet};
+use std::fmt;
 
-// A number, after its name.
-pub fn number(name: &[u8], x: usize) {
-    io::write_all(1, name);
-    io::print_decimal(1, x as u64);
+// The replicas of a mask, rising, with a comma between two of them; `none` if there is none.
+#[derive(Clone, Copy)]
+pub struct Members(pub u64);
+
+impl fmt::Display for Members {
+    fn fmt<W: fmt::Write>(&self, f: &mut fmt::Formatter<W>) -> fmt::Result {
+        let row = self.0.row();
+        write!(f, "{}", Shards(row))
+    }
 }
 
-// The members of a mask, rising, or none.
-pub fn members(mask: u64) {
-    shards(Row {
-        w0: mask,
-        w1: 0,
-        w2: 0,
-        w3: 0,
-    });
-}
+// The shards of a row, likewise.
+#[derive(Clone, Copy)]
+pub struct Shards(pub Row);
 
-// The shards of a row, rising, or none.
-pub fn shards(row: Row) {
-    let mut named = false;
-    let mut i: usize = 0;
-    while i < 256 {
-        if rows::has_shard(row, ShardId(i)) {
-            member(named, i);
-            named = true;
+impl fmt::Display for Shards {
+    fn fmt<W: fmt::Write>(&self, f: &mut fmt::Formatter<W>) -> fmt::Result {
+        let row = self.0;
+        let shards = (0..256).filter(|s| row.has(ShardId(*s)));
+        if row == Row::none() {
+            return write!(f, "none");
         }
-        i += 1;
-    }
-    if !named {
-        io::write_all(1, b"none");
+        for (k, s) in shards.enumerate() {
+            if k > 0 {
+                write!(f, ",")?;
+            }
+            write!(f, "{s}")?;
+        }
+        Ok(())
     }
 }
 
-fn member(named: bool, i: usize) {
-    if named {
-        io::write_all(1, b",");
-    }
-    io::print_decimal(1, i as u64);
-}
+// The bits of a double; nothing if it is not finite.
+#[derive(Clone, Copy)]
+pub struct Bits(pub f64);
 
-// A double's bits, if it is finite.
-pub fn bits(x: f64) {
-    if floats::is_finite(x) {
-        io::print_hex(1, f64::to_bits(x), 16);
+impl fmt::Display for Bits {
+    fn fmt<W: fmt::Write>(&self, f: &mut fmt::Formatter<W>) -> fmt::Result {
+        let x = self.0;
+        if floats::is_finite(x) {
+            let bits = f64::to_bits(x);
+            return write!(f, "{bits:016x}");
+        }
+        Ok(())
     }
 }

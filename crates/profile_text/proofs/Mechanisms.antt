@@ -1,57 +1,58 @@
 -- What the loops over mechanisms, domains and decimals need at each step: the premises are what a need's record holds. Assumes nothing.
-use mathlib.Core.Path.{◌≡◌, refl, sym, ap, ◌∙◌}
-use mathlib.Core.Bool.{Bool, true, false, not, ◌||◌}
+use mathlib.Core.Path.{◌≡◌, refl, sym, ap, subst, ◌∙◌}
+use mathlib.Core.Bool.{Bool, true, false, ◌||◌}
 use mathlib.Core.List.{List, [], ◌∷◌, ◌++◌}
 use Prim.Native.Nat.{ℕ, suc, ◌+◌, ◌-◌, ◌≤◌, ◌<◌}
 use native.Mathlib.Omega.{arith}
 use lib.Count.{count_trailing_zeros}
 use lib.Ieee.{Float, binary64, of_bits, of_fields, round, size, units, odd, span, climb}
-use lib.ListN.{length, drop, set, replicate, length-append}
+use lib.ListN.{length, set, replicate, length-append}
 use lib.Seq.{take_all, take-append-le, append_snoc, set-append_seam}
-use borrow.Author.Tests.{eq-eqb, ne_eqb, lt-ltb, le-ltb, not-true, not-false}
-use Rattle.refusals.specs.Numbers.{DOMAINS}
-use Rattle.refusals.specs.Outcome.{Outcome, refused, accepted}
+use borrow.Author.Tests.{eq-eqb, ne_eqb, lt-ltb, le-ltb}
+use Rattle.std.proofs.lemmas.Slice.Eq.{HasBytesAt, bytes_eq-Decides, text_from_reads}
+use Rattle.numerals.proofs.Scans.{same_is}
+use Rattle.std.specs.Prelude.{Result, Ok, Err, cond}
+use Rattle.profiles.specs.Profile.{probs_fit}
+use Rattle.refusals.specs.Numbers.{DOMAINS, PROBABILITIES, MECHANISM}
+use Rattle.refusals.specs.Refused.{number_of, refusal_of}
+use Rattle.refusals.specs.declared.Refusal.{Refusal}
+use Rattle.refusals.proofs.Checks.{went_on}
+use Rattle.refusals.proofs.Outcomes.{number_positive}
+use Rattle.refusals.specs.Outcome.{Outcome, refused, accepted, and_then}
 use Rattle.floats.specs.Floats.{plus_zero}
 use Rattle.profiles.specs.declared.Profile.{Profile}
-use Rattle.numerals.specs.Text.{is_empty, is_same, trim, before, behind, split}
-use Rattle.numerals.specs.TextLaws.{PartOf}
+use Rattle.numerals.specs.Text.{is_empty, is_same, trim, before, behind}
 use Rattle.numerals.specs.Read.{read_each}
-use Rattle.numerals.proofs.ReadLaws.{read_last, read_more}
-use Rattle.numerals.specs.Whole.{members_of, members}
-use Rattle.numerals.specs.declared.Members.{Members}
-use Rattle.numerals.specs.declared.Members.TheVariants as Memberships
-use Rattle.decimals.specs.Decimal.{decimal_of, decimal}
-use Rattle.decimals.specs.declared.Decimal.{Decimal}
-use Rattle.decimals.specs.declared.Decimal.TheVariants as Readings
-use Rattle.profile_text.specs.declared.Reading.TheVariants.{Refused, Read}
+use Rattle.numerals.proofs.ReadLaws.{read_refused, read_next, read_ended}
+use Rattle.numerals.specs.Whole.{members_of}
+use Rattle.decimals.specs.Decimal.{decimal_of}
 use Rattle.profile_text.specs.declared.Decimals.{Decimals}
-use Rattle.profile_text.specs.declared.Parsed.{Parsed}
-use Rattle.profile_text.specs.ProfileText.{filled, with_domain, with_words, with_probs, domain_in, decimal_in, decimals_of, threshold_of, fitting, probs_in, none_name, named_in, mechanism_in, parsed, decimals}
+use Rattle.profile_text.specs.ProfileText.{filled, with_domain, with_words, with_probs, domain_in, decimal_in, decimals_of, threshold_of, fitting, domains_in, probs_in, with_runtime, none_name, domains_name, probs_name, runtime_name, named_in, mechanism_in, listed, answer}
 
--- ---- a domain: w is what was answered of its members
+-- ---- a domain
 module _ (n : ℕ) (p : Profile) (q : List ℕ) where
   pub domain_full : 64 ≤ p.domain_count → domain_in n p q ≡ refused DOMAINS
   unfolding domain_in
   domain_full h = rw (le-ltb _ _ h)
 
-  module _ (h : p.domain_count < 64) {w : Members} (e : members w ≡ members_of true n q) where
-    pub domain_refused : {k : ℕ} → w ≡ Memberships.Refused k → domain_in n p q ≡ refused k
+  module _ (h : p.domain_count < 64) where
+    pub domain_refused : {k : ℕ} → refused k ≡ members_of true n q → domain_in n p q ≡ refused k
     unfolding domain_in
-    domain_refused t = rw (lt-ltb _ _ h, sym e ∙ ap members t)
+    domain_refused e = rw (lt-ltb _ _ h, ← e)
 
-    pub domain_read : {m : ℕ} → w ≡ Memberships.Mask m → domain_in n p q ≡ accepted (with_domain p m)
+    pub domain_read : (m : ℕ) → accepted m ≡ members_of true n q → domain_in n p q ≡ accepted (with_domain p m)
     unfolding domain_in
-    domain_read t = rw (lt-ltb _ _ h, sym e ∙ ap members t)
+    domain_read m e = rw (lt-ltb _ _ h, ← e)
 
--- ---- a decimal: t is the trimmed part, and w what was answered of it
-module _ (ps : List Float) (q : List ℕ) {t : List ℕ} {w : Decimal} (f : t ≡ trim q) (e : decimal w ≡ decimal_of t) where
-  pub decimal_refused : {k : ℕ} → w ≡ Readings.Refused k → decimal_in ps q ≡ refused k
+-- ---- a decimal: t is the trimmed part
+module _ (ps : List Float) (q : List ℕ) {t : List ℕ} (f : t ≡ trim q) where
+  pub decimal_refused : {k : ℕ} → refused k ≡ decimal_of t → decimal_in ps q ≡ refused k
   unfolding decimal_in
-  decimal_refused d = rw (← f, sym e ∙ ap decimal d)
+  decimal_refused e = rw (← f, ← e)
 
-  pub decimal_read : {x : Float} → w ≡ Readings.Value x → decimal_in ps q ≡ accepted (ps ++ (x ∷ []))
+  pub decimal_read : (x : Float) → accepted x ≡ decimal_of t → decimal_in ps q ≡ accepted (ps ++ (x ∷ []))
   unfolding decimal_in
-  decimal_read d = rw (← f, sym e ∙ ap decimal d)
+  decimal_read x e = rw (← f, ← e)
 
 -- one more of 16, and one past them
 module _ {A : Type 0} (k : ℕ) (z : A) (xs : List A) (x : A) where
@@ -79,109 +80,140 @@ module _ (s : List ℕ) {t : List ℕ} (e : t ≡ trim s) where
   unfolding threshold_of
   threshold_read h f = f ∙ rw (← e, ne_eqb _ _ h)
 
--- ---- probabilities: r is what was answered of the decimals, and w of the threshold
-module _ (o : Outcome (List Float)) {r : Decimals} (e : r ≡ decimals o) where
-  list_refused : {k : ℕ} → r.answer ≡ Refused k → o ≡ refused k
-  list_refused {k} t = go o (ap (λ (d : Decimals). d.answer) (sym e) ∙ t)
-    where
-      go : (o : Outcome (List Float)) → (decimals o).answer ≡ Refused k → o ≡ refused k
-      go (refused j) t = let z : j ≡ k = cc in ap refused z
-      go (accepted ps) t = let z : ◌≡◌ {A = ℕ} 0 1 = cc in absurd (omega arith)
+-- ---- probabilities
+-- what was read of a list, and is seen as f sees it
+module _ {A B : Type 0} (f : A → B) where
+  seen_refused : (o : Outcome A) {k : ℕ} → refused k ≡ and_then o (λ a. accepted (f a)) → o ≡ refused k
+  seen_refused (refused j) {k} e = let z : j ≡ k = cc in ap refused z
+  seen_refused (accepted a) e = let z : ◌≡◌ {A = ℕ} 0 1 = cc in absurd (omega arith)
 
-  -- the decimals themselves
-  record Listed : Type 0 where
-    ps : List Float
-    is_read : o ≡ accepted ps
-    count_is : r.count ≡ length ps
-    values_are : r.values ≡ filled 16 plus_zero ps
+  seen_read : (o : Outcome A) {b : B} → accepted b ≡ and_then o (λ a. accepted (f a)) → (a : A) × (o ≡ accepted a) × (b ≡ f a)
+  seen_read (refused j) e = let z : ◌≡◌ {A = ℕ} 0 1 = cc in absurd (omega arith)
+  seen_read (accepted a) e = (a, refl, cc)
 
-  list_read : r.answer ≡ Read → Listed
-  list_read t = go o refl (ap (λ (d : Decimals). d.answer) (sym e) ∙ t)
-    where
-      go : (u : Outcome (List Float)) → o ≡ u → (decimals u).answer ≡ Read → Listed
-      go (refused j) f t = let z : ◌≡◌ {A = ℕ} 0 1 = cc in absurd (omega arith)
-      go (accepted ps) f t =
-          let g : r ≡ decimals (accepted ps) = e ∙ ap decimals f in
-          record { ps = ps; is_read = f; count_is = ap (λ (d : Decimals). d.count) g; values_are = ap (λ (d : Decimals). d.values) g }
-
-module _ (n : ℕ) (p : Profile) (args : List ℕ) {u : List ℕ} {r : Decimals} (f : u ≡ before 64 args) (e : r ≡ decimals (decimals_of u)) where
-  pub probs_refused : {k : ℕ} → r.answer ≡ Refused k → refused k ≡ probs_in n p args
+-- r is what was answered of the decimals
+module _ (n : ℕ) (p : Profile) (args : List ℕ) {u : List ℕ} (f : u ≡ before 64 args) where
+  pub probs_refused : {k : ℕ} → refused k ≡ and_then (decimals_of u) (λ ps. accepted (listed ps)) → refused k ≡ probs_in n p args
   unfolding probs_in
-  probs_refused t = rw (← f, list_refused (decimals_of u) e t)
+  probs_refused e = rw (← f, seen_refused listed (decimals_of u) e)
 
-  module _ (t : r.answer ≡ Read) {v : List ℕ} {w : Decimal} (g : v ≡ behind 64 args) (d : decimal w ≡ threshold_of v) where
-    pub threshold_refused : {k : ℕ} → w ≡ Readings.Refused k → refused k ≡ probs_in n p args
+  module _ {v : List ℕ} (g : v ≡ behind 64 args) where
+    misread : (ps : List Float) → decimals_of u ≡ accepted ps → {k : ℕ} → refused k ≡ threshold_of v → refused k ≡ probs_in n p args
     unfolding probs_in
-    threshold_refused h = rw (← f, (list_read (decimals_of u) e t).is_read, ← g, sym d ∙ ap decimal h)
+    misread ps a d = rw (← f, a, ← g, ← d)
 
-    words : (ps : List Float) (x : Float) → decimals_of u ≡ accepted ps → w ≡ Readings.Value x → fitting n (with_probs p ps x) ≡ probs_in n p args
+    words : (ps : List Float) (x : Float) → decimals_of u ≡ accepted ps → accepted x ≡ threshold_of v → fitting n (with_probs p ps x) ≡ probs_in n p args
     unfolding probs_in
-    words ps x a h = rw (← f, a, ← g, sym d ∙ ap decimal h)
+    words ps x a d = rw (← f, a, ← g, ← d)
 
-    pub probs_read : {x : Float} {y : Profile} → w ≡ Readings.Value x → y ≡ with_words p r.count r.values x → fitting n y ≡ probs_in n p args
-    probs_read {x} h j =
-        let l = list_read (decimals_of u) e t in
-        let k = ap (λ (k : ℕ). with_words p k r.values x) l.count_is ∙ ap (λ (xs : List Float). with_words p (length l.ps) xs x) l.values_are in
-        ap (fitting n) (j ∙ k) ∙ words l.ps x l.is_read h
+    module _ (r : Decimals) (e : accepted r ≡ and_then (decimals_of u) (λ ps. accepted (listed ps))) where
+      pub threshold_refused : {k : ℕ} → refused k ≡ threshold_of v → refused k ≡ probs_in n p args
+      threshold_refused d = let l = seen_read listed (decimals_of u) e in misread l.0 l.1 d
 
--- ---- decimals read so far, of which the first 16 are held
-pub record Collected (s : List ℕ) (at count : ℕ) (values : List Float) : Type 0 where
+      pub probs_read : (x : Float) → accepted x ≡ threshold_of v → fitting n (with_words p r.count r.values x) ≡ probs_in n p args
+      probs_read x d =
+          let l = seen_read listed (decimals_of u) e in
+          ap (λ (k : Decimals). fitting n (with_words p k.count k.values x)) l.2 ∙ words l.0 x l.1 d
+
+-- ---- a check that refuses
+pub gave_up : (b : Bool) (k : ℕ) (e : Refusal) → number_of e ≡ cond b 0 k → (b ≡ false) × (number_of e ≡ k)
+gave_up true k e h = absurd (omega (arith, number_positive e))
+gave_up false k e h = (refl, h)
+
+pub fit_answer : (n : ℕ) (p : Profile) (b : Bool) (r : Result Unit Refusal) → b ≡ probs_fit n p → refusal_of r ≡ cond b 0 PROBABILITIES → answer r p ≡ fitting n p
+unfolding fitting
+fit_answer n p b (Ok u) e h = rw (sym e ∙ went_on b 10 h)
+fit_answer n p b (Err x) e h = let q = gave_up b PROBABILITIES x h in rw (sym e ∙ q.0) (ap refused q.1)
+
+-- ---- decimals read so far, of which the first 16 are held, and the parts that are left
+pub record Collected (s : List ℕ) (list : Decimals) (parts : List (List ℕ)) : Type 0 where
   pub ps : List Float
-  pub counted : count ≡ length ps
-  pub held : values ≡ filled 16 plus_zero ps
-  pub left : decimals_of s ≡ read_each decimal_in ps (split 44 (drop at s))
+  pub held : list ≡ listed ps
+  pub left : decimals_of s ≡ read_each decimal_in ps parts
+  pub fits : length ps + length parts ≤ length s + 1
 
-module _ {s : List ℕ} {at count : ℕ} {values : List Float} (l : Collected s at count values) (x : Float) {now : List Float} where
-  pub held_next : count < 16 → now ≡ set values count x → now ≡ filled 16 plus_zero (l.ps ++ (x ∷ []))
-  held_next h e = e ∙ rw (l.held, l.counted) (filled_next 16 plus_zero l.ps x (omega (arith, l.counted)))
+module _ {s : List ℕ} {list : Decimals} {parts : List (List ℕ)} (l : Collected s list parts) where
+  abbrev pub Answers : Outcome Decimals → Type 0
+  Answers o = o ≡ and_then (decimals_of s) (λ ps. accepted (listed ps))
 
-  pub held_past : 16 ≤ count → now ≡ values → now ≡ filled 16 plus_zero (l.ps ++ (x ∷ []))
-  held_past h e = e ∙ l.held ∙ filled_past 16 plus_zero l.ps x (omega (arith, l.counted))
+  pub collected_ends : parts ≡ [] → Answers (accepted list)
+  collected_ends h = rw l.held (ap (λ (o : Outcome (List Float)). and_then o (λ ps. accepted (listed ps))) (read_ended decimal_in l.ps l.left h))
 
-  module _ (e : now ≡ filled 16 plus_zero (l.ps ++ (x ∷ []))) {q t : List ℕ} {w : Decimal} (h : PartOf s at 44 q) (f : t ≡ trim q) (d : decimal w ≡ decimal_of t)
-      (g : w ≡ Readings.Value x) where
-    one_more : count + 1 ≡ length (l.ps ++ (x ∷ []))
-    one_more = sym (length-append l.ps (x ∷ []) ∙ ap (λ (k : ℕ). k + 1) (sym l.counted))
+  module _ {q : List ℕ} {rest : List (List ℕ)} (h : parts ≡ q ∷ rest) {t : List ℕ} (f : t ≡ trim q) where
+    pub collected_refused : {k : ℕ} → refused k ≡ decimal_of t → Answers (refused k)
+    collected_refused e = ap (λ (o : Outcome (List Float)). and_then o (λ ps. accepted (listed ps))) (read_refused decimal_in l.ps l.left h (decimal_refused l.ps q f e))
 
-    pub collected_last : at + length q ≡ length s → record { answer = Read; count = count + 1; values = now } ≡ decimals (decimals_of s)
-    collected_last z =
-        rw (one_more, e) (ap decimals (read_last decimal_in l.ps l.left h (decimal_read l.ps q f d g) z))
+    pub collected_few : list.count ≤ length s
+    collected_few = omega (arith, ap (λ (d : Decimals). d.count) l.held, ap length h, l.fits)
 
-    pub collected_more : (at + length q ≡ length s → ⊥) → Collected s (at + length q + 1) (count + 1) now
-    collected_more z =
+    pub collected_next : (x : Float) → accepted x ≡ decimal_of t → {now : Decimals} → ((ps : List Float) → list ≡ listed ps → now ≡ listed (ps ++ (x ∷ []))) → Collected s now rest
+    collected_next x e p =
         record {
           ps = l.ps ++ (x ∷ []);
-          counted = one_more;
-          held = e;
-          left = read_more decimal_in l.ps l.left h (decimal_read l.ps q f d g) z;
+          held = p l.ps l.held;
+          left = read_next decimal_in l.ps l.left h (decimal_read l.ps q f x e);
+          fits = omega (arith, length-append l.ps (x ∷ []), ap length h, l.fits);
         }
 
--- ---- a mechanism: t is the trimmed part, b whether it is skipped, and y what was answered of it
-module _ (o : Outcome Profile) {y : Parsed} (g : y ≡ parsed o) where
-  parsed_refused : {k : ℕ} → y.answer ≡ Refused k → o ≡ refused k
-  parsed_refused {k} t = go o (ap (λ (d : Parsed). d.answer) (sym g) ∙ t)
-    where
-      go : (o : Outcome Profile) → (parsed o).answer ≡ Refused k → o ≡ refused k
-      go (refused j) t = let z : j ≡ k = cc in ap refused z
-      go (accepted p) t = let z : ◌≡◌ {A = ℕ} 0 1 = cc in absurd (omega arith)
+-- one decimal more
+module _ (list : Decimals) (x : Float) (ps : List Float) (e : list ≡ listed ps) where
+  counted : list.count ≡ length ps
+  counted = ap (λ (d : Decimals). d.count) e
 
-  parsed_read : y.answer ≡ Read → o ≡ accepted y.profile
-  parsed_read t = go o (ap (λ (d : Parsed). d.answer) (sym g) ∙ t) (ap (λ (d : Parsed). d.profile) (sym g))
-    where
-      go : (o : Outcome Profile) → (parsed o).answer ≡ Read → (parsed o).profile ≡ y.profile → o ≡ accepted y.profile
-      go (refused j) t e = let z : ◌≡◌ {A = ℕ} 0 1 = cc in absurd (omega arith)
-      go (accepted p) t e = ap accepted e
+  held : list.values ≡ filled 16 plus_zero ps
+  held = ap (λ (d : Decimals). d.values) e
 
+  one_more : list.count + 1 ≡ length (ps ++ (x ∷ []))
+  one_more = ap (λ (k : ℕ). k + 1) counted ∙ sym (length-append ps (x ∷ []))
+
+  pub listed_next : list.count < 16 → record { count = list.count + 1; values = set list.values list.count x } ≡ listed (ps ++ (x ∷ []))
+  listed_next h =
+      let v : set list.values list.count x ≡ filled 16 plus_zero (ps ++ (x ∷ [])) = rw (held, counted) (filled_next 16 plus_zero ps x (omega (arith, counted))) in
+      rw (one_more, v)
+
+  pub listed_past : 16 ≤ list.count → record { count = list.count + 1; values = list.values } ≡ listed (ps ++ (x ∷ []))
+  listed_past h =
+      let v : list.values ≡ filled 16 plus_zero (ps ++ (x ∷ [])) = held ∙ filled_past 16 plus_zero ps x (omega (arith, counted)) in
+      rw (one_more, v)
+
+-- ---- a mechanism: t is the trimmed part, and b whether it is skipped
 module _ (n : ℕ) (p : Profile) (q : List ℕ) {t : List ℕ} {b : Bool} (f : t ≡ trim q) (e : b ≡ (is_empty t || is_same t none_name)) where
-  pub mechanism_skipped : {r : Profile} → not b ≡ false → r ≡ p → mechanism_in n p q ≡ accepted r
+  pub mechanism_skipped : b ≡ true → accepted p ≡ mechanism_in n p q
   unfolding mechanism_in
-  mechanism_skipped h j = rw (← f, sym e ∙ not-false b h, j)
+  mechanism_skipped h = rw (← f, sym e ∙ h)
 
-  module _ (h : not b ≡ true) {y : Parsed} (g : y ≡ parsed (named_in n p (trim (before 58 t)) (behind 58 t))) where
-    pub mechanism_refused : {k : ℕ} → y.answer ≡ Refused k → mechanism_in n p q ≡ refused k
-    unfolding mechanism_in
-    mechanism_refused j = rw (← f, sym e ∙ not-true b h, parsed_refused (named_in n p (trim (before 58 t)) (behind 58 t)) g j)
+  pub mechanism_read : b ≡ false → {o : Outcome Profile} → o ≡ named_in n p (trim (before 58 t)) (behind 58 t) → o ≡ mechanism_in n p q
+  unfolding mechanism_in
+  mechanism_read h g = g ∙ rw (← f, sym e ∙ h)
 
-    pub mechanism_read : {r : Profile} → y.answer ≡ Read → r ≡ y.profile → mechanism_in n p q ≡ accepted r
-    unfolding mechanism_in
-    mechanism_read j i = rw (← f, sym e ∙ not-true b h, parsed_read (named_in n p (trim (before 58 t)) (behind 58 t)) g j, i)
+-- ---- a mechanism by its name, of which a match reads the length and the bytes
+-- a text that has not both the length and the bytes of another
+unlike : (name text : List ℕ) → HasBytesAt text 0 text → (length name ≡ length text → HasBytesAt name 0 text → ⊥) → is_same name text ≡ false
+unlike name text r h = go (is_same name text) refl
+  where
+    go : (b : Bool) → is_same name text ≡ b → is_same name text ≡ false
+    go false e = e
+    go true e =
+        let q : name ≡ text = (bytes_eq-Decides name text).0 (same_is name text ∙ e) in
+        absurd (h (ap length q) (subst (λ (s : List ℕ). HasBytesAt s 0 text) (sym q) r))
+
+module _ (n : ℕ) (p : Profile) (name args : List ℕ) where
+  pub named_domains : {o : Outcome Profile} → length name ≡ 7 → HasBytesAt name 0 domains_name → o ≡ domains_in n p args → o ≡ named_in n p name args
+  unfolding named_in is_same
+  named_domains l h e = rw (text_from_reads name domains_name l h) e
+
+  pub named_probs : {o : Outcome Profile} → length name ≡ 5 → HasBytesAt name 0 probs_name → o ≡ probs_in n p args → o ≡ named_in n p name args
+  unfolding named_in is_same
+  named_probs l h e = rw (text_from_reads name probs_name l h) e
+
+  pub named_runtime : length name ≡ 7 → HasBytesAt name 0 runtime_name → accepted (with_runtime p) ≡ named_in n p name args
+  unfolding named_in is_same
+  named_runtime l h = rw (text_from_reads name runtime_name l h)
+
+  pub named_other : (length name ≡ 7 → HasBytesAt name 0 domains_name → ⊥) → (length name ≡ 5 → HasBytesAt name 0 probs_name → ⊥) → (length name ≡ 7 → HasBytesAt name 0 runtime_name → ⊥) → refused MECHANISM ≡ named_in n p name args
+  unfolding named_in
+  named_other f g h =
+      let d : is_same name domains_name ≡ false = unlike name domains_name (refl, (refl, (refl, (refl, (refl, (refl, (refl, tt))))))) f in
+      let e : is_same name probs_name ≡ false = unlike name probs_name (refl, (refl, (refl, (refl, (refl, tt))))) g in
+      let r : is_same name runtime_name ≡ false = unlike name runtime_name (refl, (refl, (refl, (refl, (refl, (refl, (refl, tt))))))) h in
+      rw (d, e, r)

@@ -1,11 +1,13 @@
 -- The text of a reliability profile: mechanisms split at `;`, each read into the profile so far. The first fault from the left decides. Assumes nothing.
-use Rattle.std.specs.Prelude.{true, false, cond, ◌||◌, List, [], ◌∷◌, ◌++◌, ℕ, ◌+◌, ◌-◌, ltb, Float, length, set, take, replicate}
+use Rattle.std.specs.Prelude.{true, false, cond, ◌||◌, List, [], ◌∷◌, ◌++◌, ℕ, ◌+◌, ◌-◌, ltb, Float, length, set, take, replicate, Result}
 use Rattle.std.specs.Float.{binary64}
 use Rattle.std.specs.Float.Ieee.{round}
 use Rattle.refusals.specs.Numbers.{POPULATION, TEXT, MECHANISM, PROBABILITIES, DOMAINS}
 use Rattle.refusals.specs.First.{unless, first_of}
 use Rattle.refusals.specs.Outcome.{Outcome, refused, accepted, checked, and_then}
 use Rattle.refusals.specs.Limits.{is_population}
+use Rattle.refusals.specs.Refused.{outcome_by}
+use Rattle.refusals.specs.declared.Refusal.{Refusal}
 use Rattle.floats.specs.Floats.{plus_zero}
 use Rattle.profiles.specs.declared.Profile.{Profile}
 use Rattle.profiles.specs.Profile.{probs_fit}
@@ -14,9 +16,7 @@ use Rattle.numerals.specs.Text.{is_text, is_empty, is_same, trim, before, behind
 use Rattle.numerals.specs.Read.{read_each}
 use Rattle.numerals.specs.Whole.{members_of}
 use Rattle.decimals.specs.Decimal.{decimal_of}
-use Rattle.profile_text.specs.declared.Reading.TheVariants.{Refused, Read}
 use Rattle.profile_text.specs.declared.Decimals.{Decimals}
-use Rattle.profile_text.specs.declared.Parsed.{Parsed}
 
 -- ---- a profile
 
@@ -139,13 +139,12 @@ most_bytes = 4096
 unfoldable pub profile_of : ℕ → List ℕ → Outcome Profile
 profile_of n s = checked (first_of (unless (is_population n) POPULATION ∷ unless (is_text most_bytes s) TEXT ∷ [])) (mechanisms_of n s)
 
--- ---- what the answers are; beside a number stands a profile, or a list, of nothing
+-- ---- what the answers are
 
-abbrev pub parsed : Outcome Profile → Parsed
-parsed (refused k) = record { answer = Refused k; profile = nothing }
-parsed (accepted p) = record { answer = Read; profile = p }
+-- of a text, or a part of one, with the profile that is lent at exit
+abbrev pub answer : Result Unit Refusal → Profile → Outcome Profile
+answer r p = outcome_by (λ u. p) r
 
 -- of a list of decimals: how many, and the first 16
-abbrev pub decimals : Outcome (List Float) → Decimals
-decimals (refused k) = record { answer = Refused k; count = 0; values = filled 16 plus_zero [] }
-decimals (accepted ps) = record { answer = Read; count = length ps; values = filled 16 plus_zero ps }
+abbrev pub listed : List Float → Decimals
+listed ps = record { count = length ps; values = filled 16 plus_zero ps }

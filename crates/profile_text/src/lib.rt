@@ -1,80 +1,116 @@
 // The text of a reliability profile (ReliabilityProfile::parse).
 #![tactic(auto)]
 
-ghost use Rattle.std.specs.Prelude.{◌≡◌, ◌||◌, ◌≤◌};
-ghost use Rattle.refusals.specs.Outcome.{refused, accepted};
-ghost use Rattle.numerals.specs.Text.{is_empty, is_same, trim, before, behind};
-ghost use Rattle.decimals.specs.Decimal.{decimal};
-ghost use Rattle.profile_text.specs.ProfileText.{nothing, with_words, with_runtime, domains_in, decimals_of, threshold_of, fitting, probs_in, none_name, named_in, mechanisms_of, profile_of, parsed, decimals};
+ghost use Rattle.std.specs.Prelude.{◌≡◌, ◌||◌, ◌+◌, ◌^◌, ◌≤◌, ◌<◌, ◌∷◌, ◌++◌, [], List, Float};
+ghost use Rattle.refusals.specs.Outcome.{accepted, and_then};
+ghost use Rattle.refusals.specs.Refused.{outcome_of};
+ghost use Rattle.numerals.specs.Text.{is_empty, is_same, split};
+ghost use Rattle.numerals.specs.Read.{read_each};
+ghost use Rattle.profile_text.specs.ProfileText.{nothing, domains_in, decimals_of, threshold_of, probs_in, none_name, named_in, mechanism_in, profile_of, listed, answer};
 
-use decimals::Decimal;
-use numerals::Members;
 use profiles::Profile;
+use refusals::{Refusal, unless};
 
 // The most bytes that a profile's text has.
 const MOST_BYTES: usize = 4096;
 
-#[derive(Clone, Copy)]
-pub enum Reading {
-    Refused(u8),
-    Read,
-}
-
-// The number that refuses, beside a profile of nothing; or the profile.
-#[derive(Clone, Copy)]
-pub struct Parsed {
-    pub answer: Reading,
-    pub profile: Profile,
-}
-
 // A list of decimals: how many, and the first 16 of them.
+// Kept as it is: a rule of the project (no heap, fixed memory) needs the array, which the count may pass.
 #[derive(Clone, Copy)]
 struct Decimals {
-    answer: Reading,
     count: usize,
     values: [f64; 16],
 }
 
-// The profile of n replicas that a text says.
-pub fn parse_profile(n: usize, s: &[u8]) -> Parsed
-    ensures { result ≡ parsed (profile_of n s.now) }
-{
-    if !refusals::is_population(n) {
-        return refused(refusals::POPULATION);
-    }
-    if !numerals::is_text(s, MOST_BYTES) {
-        return refused(refusals::TEXT);
-    }
-    read_mechanisms(n, s)
+// What a profile is read for: a population that has been tested.
+#[derive(Clone, Copy)]
+struct Reader {
+    population: usize,
+    ghost few_replicas: { population ≤ 16 },
 }
 
-// The mechanisms between `;`, from the left: empty ones and `none` are skipped.
-fn read_mechanisms(n: usize, s: &[u8]) -> Parsed
-    requires { n ≤ 16 }
-    ensures { result ≡ parsed (mechanisms_of n s.now) }
+// The profile of n replicas that a text says.
+#[tactic(auto, unfolding(crate::specs::ProfileText::profile_of))]
+pub fn parse_profile(n: usize, s: &[u8]) -> Result<Profile, Refusal>
+    ensures { outcome_of result ≡ profile_of n s.now }
 {
+    unless(refusals::is_population(n), Refusal::Population)?;
+    unless(numerals::is_text(s, MOST_BYTES), Refusal::Text)?;
     let mut p = nothing();
-    let mut at: usize = 0;
-    loop {
-        let q = numerals::part(s, at, b';');
-        let t = numerals::trimmed(q);
-        if !is_skipped(t) {
-            let r = read_mechanism(n, p, t);
-            let a = r.answer;
-            match a {
-                Reading::Refused(no) => {
-                    return refused(no);
-                }
-                Reading::Read => {
-                    p = r.profile;
-                }
+    let reader = Reader { population: n };
+    reader.read_mechanisms(&mut p, s)?;
+    Ok(p)
+}
+
+impl Reader {
+    // The mechanisms between `;`, from the left, each added to the profile.
+    fn read_mechanisms(self, p: &mut Profile, s: &[u8]) -> Result<(), Refusal>
+        ensures { answer result p.new ≡ read_each (mechanism_in self.population) p.old (split 59 s.now) }
+    {
+        for q in numerals::split(s, b';') {
+            self.read_mechanism(p, q)?;
+        }
+        Ok(())
+    }
+
+    // A mechanism: its name ends at the first colon. An empty one and `none` are skipped.
+    fn read_mechanism(self, p: &mut Profile, s: &[u8]) -> Result<(), Refusal>
+        ensures { answer result p.new ≡ mechanism_in self.population p.old s.now }
+    {
+        let t = numerals::trimmed(s);
+        if is_skipped(t) {
+            return Ok(());
+        }
+        let c = numerals::find(t, b':');
+        self.read_named(
+            p,
+            numerals::trimmed(numerals::upto(t, c)),
+            numerals::past(t, c),
+        )
+    }
+
+    // A mechanism by its name, with what follows its colon.
+    #[tactic(auto, using(crate::proofs::Mechanisms::named_domains, crate::proofs::Mechanisms::named_probs, crate::proofs::Mechanisms::named_runtime, crate::proofs::Mechanisms::named_other), unfolding(crate::specs::ProfileText::with_runtime))]
+    fn read_named(self, p: &mut Profile, name: &[u8], args: &[u8]) -> Result<(), Refusal>
+        ensures { answer result p.new ≡ named_in self.population p.old name.now args.now }
+    {
+        match name {
+            b"domains" => self.read_domains(p, args),
+            b"probs" => self.read_probs(p, args),
+            b"runtime" => {
+                p.runtime = true;
+                Ok(())
             }
+            _ => Err(Refusal::Mechanism),
         }
-        at = at + q.len();
-        if at == s.len() {
-            return read(p);
+    }
+
+    // The sets between `/`, each added to the domains.
+    fn read_domains(self, p: &mut Profile, args: &[u8]) -> Result<(), Refusal>
+        ensures { answer result p.new ≡ domains_in self.population p.old args.now }
+    {
+        for q in numerals::split(args, b'/') {
+            let k = p.domain_count;
+            unless(k < 64, Refusal::Domains)?;
+            let m = numerals::read_members(q, true, self.population)?;
+            p.domains[k] = m;
+            p.domain_count = k + 1;
         }
-        at += 1;
+        Ok(())
+    }
+
+    // The decimals, and the threshold after the first `@`; they are tested after all have been read.
+    fn read_probs(self, p: &mut Profile, args: &[u8]) -> Result<(), Refusal>
+        ensures { answer result p.new ≡ probs_in self.population p.old args.now }
+    {
+        let c = numerals::find(args, b'@');
+        let list = read_decimals(numerals::upto(args, c))?;
+        let threshold = read_threshold(numerals::past(args, c))?;
+        let values = list.values;
+        p.prob_count = list.count;
+        p.probs = values;
+        p.threshold = threshold;
+        unless(p.probs_fit(self.population), Refusal::Probabilities)
     }
 }
 
@@ -82,165 +118,45 @@ fn read_mechanisms(n: usize, s: &[u8]) -> Parsed
 fn is_skipped(t: &[u8]) -> bool
     ensures { result ≡ (is_empty t.now || is_same t.now none_name) }
 {
-    if t.len() == 0 {
-        return true;
-    }
-    numerals::same(t, b"none")
-}
-
-// A trimmed mechanism that is not skipped: its name ends at the first colon.
-fn read_mechanism(n: usize, p: Profile, t: &[u8]) -> Parsed
-    requires { n ≤ 16 }
-    ensures { result ≡ parsed (named_in n p (trim (before 58 t.now)) (behind 58 t.now)) }
-{
-    let c = numerals::find(t, b':');
-    read_named(
-        n,
-        p,
-        numerals::trimmed(numerals::upto(t, c)),
-        numerals::past(t, c),
-    )
-}
-
-// A mechanism by its name, with what follows its colon.
-fn read_named(n: usize, p: Profile, name: &[u8], args: &[u8]) -> Parsed
-    requires { n ≤ 16 }
-    ensures { result ≡ parsed (named_in n p name.now args.now) }
-{
-    if numerals::same(name, b"domains") {
-        return read_domains(n, p, args);
-    }
-    if numerals::same(name, b"probs") {
-        return read_probs(n, p, args);
-    }
-    if numerals::same(name, b"runtime") {
-        return read(with_runtime(p));
-    }
-    refused(refusals::MECHANISM)
-}
-
-// The sets between `/`, each added to the domains.
-fn read_domains(n: usize, p: Profile, args: &[u8]) -> Parsed
-    requires { n ≤ 16 }
-    ensures { result ≡ parsed (domains_in n p args.now) }
-{
-    let mut u = p;
-    let mut at: usize = 0;
-    loop {
-        let q = numerals::part(args, at, b'/');
-        if 64 <= u.domain_count {
-            return refused(refusals::DOMAINS);
-        }
-        match numerals::read_members(q, true, n) {
-            Members::Refused(no) => {
-                return refused(no);
-            }
-            Members::Mask(m) => {
-                let k = u.domain_count;
-                u.domains[k] = m;
-                u.domain_count = k + 1;
-            }
-        }
-        at = at + q.len();
-        if at == args.len() {
-            return read(u);
-        }
-        at += 1;
-    }
-}
-
-// The decimals, and the threshold after the first `@`; they are tested after all have been read.
-fn read_probs(n: usize, p: Profile, args: &[u8]) -> Parsed
-    requires { n ≤ 16 }
-    ensures { result ≡ parsed (probs_in n p args.now) }
-{
-    let c = numerals::find(args, b'@');
-    let list = read_decimals(numerals::upto(args, c));
-    let a = list.answer;
-    let probs = list.values;
-    match a {
-        Reading::Refused(no) => refused(no),
-        Reading::Read => match read_threshold(numerals::past(args, c)) {
-            Decimal::Refused(no) => refused(no),
-            Decimal::Value(t) => fitting(n, with_words(p, list.count, probs, t)),
-        },
-    }
+    t.is_empty() || numerals::same(t, b"none")
 }
 
 // Decimals between commas.
-fn read_decimals(s: &[u8]) -> Decimals
-    ensures { result ≡ decimals (decimals_of s.now) }
+fn read_decimals(s: &[u8]) -> Result<Decimals, Refusal>
+    ensures { outcome_of result ≡ and_then (decimals_of s.now) (λ ps. accepted (listed ps)) }
 {
-    let mut values = [0.0; 16];
-    let mut count: usize = 0;
-    let mut at: usize = 0;
-    loop {
-        let q = numerals::part(s, at, b',');
-        match decimals::read_decimal(numerals::trimmed(q)) {
-            Decimal::Refused(no) => {
-                return Decimals {
-                    answer: Reading::Refused(no),
-                    count: 0,
-                    values: [0.0; 16],
-                };
-            }
-            Decimal::Value(x) => {
-                if count < 16 {
-                    values[count] = x;
-                }
-                count += 1;
-            }
-        }
-        at = at + q.len();
-        if at == s.len() {
-            return Decimals {
-                answer: Reading::Read,
-                count: count,
-                values: values,
-            };
-        }
-        at += 1;
+    let mut list = Decimals {
+        count: 0,
+        values: [0.0; 16],
+    };
+    for q in numerals::split(s, b',') {
+        let x = decimals::read_decimal(numerals::trimmed(q))?;
+        push(&mut list, x);
+    }
+    Ok(list)
+}
+
+// One decimal more.
+fn push(list: &mut Decimals, x: f64)
+    requires { list.old.count + 1 < 2 ^ 64 }
+    ensures { (ps : List Float) → list.old ≡ listed ps → list.new ≡ listed (ps ++ (x ∷ [])) }
+{
+    let k = list.count;
+    list.count = k + 1;
+    if k < 16 {
+        list.values[k] = x;
     }
 }
 
 // A threshold; blank means 1e-3.
-fn read_threshold(s: &[u8]) -> Decimal
-    ensures { decimal result ≡ threshold_of s.now }
+fn read_threshold(s: &[u8]) -> Result<f64, Refusal>
+    ensures { outcome_of result ≡ threshold_of s.now }
 {
     let t = numerals::trimmed(s);
-    if t.len() == 0 {
-        return Decimal::Value(1e-3);
+    if t.is_empty() {
+        return Ok(1e-3);
     }
     decimals::read_decimal(t)
-}
-
-// The profile, if its probabilities and its threshold are right for n replicas.
-fn fitting(n: usize, p: Profile) -> Parsed
-    requires { n ≤ 16 }
-    ensures { result ≡ parsed (fitting n p) }
-{
-    if profiles::probs_fit(n, p) {
-        return read(p);
-    }
-    refused(refusals::PROBABILITIES)
-}
-
-fn with_words(p: Profile, count: usize, probs: [f64; 16], t: f64) -> Profile
-    ensures { result ≡ with_words p count probs t }
-{
-    let mut u = p;
-    u.prob_count = count;
-    u.probs = probs;
-    u.threshold = t;
-    u
-}
-
-fn with_runtime(p: Profile) -> Profile
-    ensures { result ≡ with_runtime p }
-{
-    let mut u = p;
-    u.runtime = true;
-    u
 }
 
 // A profile that says nothing.
@@ -254,23 +170,5 @@ fn nothing() -> Profile
         threshold: 0.0,
         probs: [0.0; 16],
         domains: [0; 64],
-    }
-}
-
-fn read(p: Profile) -> Parsed
-    ensures { result ≡ parsed (accepted p) }
-{
-    Parsed {
-        answer: Reading::Read,
-        profile: p,
-    }
-}
-
-fn refused(no: u8) -> Parsed
-    ensures { result ≡ parsed (refused no) }
-{
-    Parsed {
-        answer: Reading::Refused(no),
-        profile: nothing(),
     }
 }

@@ -8,7 +8,7 @@ use lib.IntN.{pos, negsuc}
 use lib.Dec.{eqb}
 use lib.Ieee.{Float, nan, inf, fin, is_nan, lt, le}
 use lib.ListN.{length, replicate}
-use Rattle.lists.specs.All.{all}
+use Rattle.std.specs.List.{list_all}
 use Rattle.refusals.specs.Outcome.{Outcome, refused, accepted}
 use Rattle.refusals.specs.Limits.{is_population}
 use Rattle.floats.specs.Floats.{plus_zero, one, total_le, larger, is_probability}
@@ -146,7 +146,7 @@ sheet =
     ∷ []
 
 -- each profile has 16 probabilities and 64 domains, as the struct has
-whole : all (λ (l : Line). eqb (length l.p.probs) 16 && eqb (length l.p.domains) 64) sheet ≡ true
+whole : list_all (λ (l : Line). eqb (length l.p.probs) 16 && eqb (length l.p.domains) 64) sheet ≡ true
 unfolding padded profile bare grouped likely three line sheet
 whole = refl
 

@@ -6,7 +6,7 @@ use Rattle.std.proofs.Common.{arith}
 use Rattle.std.proofs.Math.Dec.{eqb}
 use Rattle.std.specs.Float.Ieee.{le, lt}
 use borrow.Author.Tests.{eqb-true, eq-eqb, eqb-false, ne_eqb, leb-true, le-leb, ltb-true, lt-ltb, not-false}
-use Rattle.lists.specs.All.{all}
+use Rattle.std.specs.List.{list_all}
 use Rattle.lists.specs.AllLaws.{all_taken_means}
 use Rattle.bitmap.specs.Mask.{bit}
 use Rattle.bitmap.specs.MaskLaws.{below_means, bit_none}
@@ -51,16 +51,16 @@ module _ (n : ℕ) (p : Profile) where
       )
 
   abbrev tests : Bool
-  tests = all is_probability (probs_of n p) && is_threshold p.threshold
+  tests = list_all is_probability (probs_of n p) && is_threshold p.threshold
 
-  abbrev each : (all is_probability (probs_of n p) ≡ true) ↔ ((i : ℕ) → i < n → is_probability (get_or p.probs i plus_zero) ≡ true)
+  abbrev each : (list_all is_probability (probs_of n p) ≡ true) ↔ ((i : ℕ) → i < n → is_probability (get_or p.probs i plus_zero) ≡ true)
   each = all_taken_means is_probability plus_zero ((probability_means plus_zero).1 (omega arith)) n p.probs
 
   chances_means : ((eqb p.prob_count n && tests) ≡ true) ↔ Chances
   chances_means = (
     λ e.
         let a = (and-eq-true_iff (eqb p.prob_count n) tests).0 e in
-        let b = (and-eq-true_iff (all is_probability (probs_of n p)) (is_threshold p.threshold)).0 a.1 in
+        let b = (and-eq-true_iff (list_all is_probability (probs_of n p)) (is_threshold p.threshold)).0 a.1 in
         record {
           count = eqb-true p.prob_count n a.0;
           each_probability = λ i h. (probability_means (get_or p.probs i plus_zero)).0 (each.0 b.0 i h);
@@ -69,7 +69,7 @@ module _ (n : ℕ) (p : Profile) where
     λ c.
         (and-eq-true_iff (eqb p.prob_count n) tests).1 (
           eq-eqb p.prob_count n c.count,
-          (and-eq-true_iff (all is_probability (probs_of n p)) (is_threshold p.threshold)).1 (
+          (and-eq-true_iff (list_all is_probability (probs_of n p)) (is_threshold p.threshold)).1 (
             each.1 (λ i h. (probability_means (get_or p.probs i plus_zero)).1 (c.each_probability i h)),
             (threshold_means p.threshold).1 c.threshold,
           ),

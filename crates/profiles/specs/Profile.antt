@@ -1,7 +1,7 @@
 -- What a profile says, and when one that is handed in is refused. Assumes nothing.
 use Rattle.std.specs.Prelude.{ℕ, Bool, not, ◌&&◌, ◌||◌, List, [], ◌∷◌, leb, eqb, Float, take}
 use Rattle.std.specs.Float.Ieee.{le, lt}
-use Rattle.lists.specs.All.{all}
+use Rattle.std.specs.List.{list_all}
 use Rattle.refusals.specs.Numbers.{MEMBER, PROBABILITIES, DOMAINS}
 use Rattle.refusals.specs.First.{Case, unless}
 use Rattle.refusals.specs.Limits.{is_mask}
@@ -26,11 +26,11 @@ is_threshold t = lt plus_zero t && le t one
 
 -- each domain has members below n alone
 unfoldable pub domains_fit : ℕ → Profile → Bool
-domains_fit n p = all (is_mask n) (domains_of p)
+domains_fit n p = list_all (is_mask n) (domains_of p)
 
 -- a probability for each of n replicas and a threshold, where it has probabilities
 unfoldable pub probs_fit : ℕ → Profile → Bool
-probs_fit n p = not (has_probs p) || (eqb p.prob_count n && (all is_probability (probs_of n p) && is_threshold p.threshold))
+probs_fit n p = not (has_probs p) || (eqb p.prob_count n && (list_all is_probability (probs_of n p) && is_threshold p.threshold))
 
 -- at most 64 domains
 unfoldable pub domains_counted : Profile → Bool

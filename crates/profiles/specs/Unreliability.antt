@@ -3,12 +3,10 @@ use Rattle.std.specs.Prelude.{ℕ, cond, List, ◌∷◌, Float, get_or}
 use Rattle.std.specs.Float.{nan}
 use Rattle.refusals.specs.Numbers.{POPULATION, REPLICA}
 use Rattle.refusals.specs.First.{Case, unless, first_of}
-use Rattle.refusals.specs.Outcome.{Outcome, refused, accepted, outcome}
+use Rattle.refusals.specs.Outcome.{Outcome, outcome}
 use Rattle.refusals.specs.Limits.{is_population, is_replica}
 use Rattle.floats.specs.Floats.{plus_zero, larger}
 use Rattle.profiles.specs.declared.Profile.{Profile}
-use Rattle.profiles.specs.declared.Estimate.{Estimate}
-use Rattle.profiles.specs.declared.Estimate.TheVariants.{Refused, Value}
 use Rattle.profiles.specs.Profile.{has_probs, profile_cases}
 
 -- the peer's probability, or 0
@@ -24,11 +22,6 @@ unreliability_cases n peer p = unless (is_population n) POPULATION ∷ unless (i
 
 unfoldable pub unreliability_refusal : ℕ → ℕ → Profile → ℕ
 unreliability_refusal n peer p = first_of (unreliability_cases n peer p)
-
--- what an answer is: the number that refuses, or the peer's unreliability
-abbrev pub answer : Estimate → Outcome Float
-answer (Refused k) = refused k
-answer (Value x) = accepted x
 
 unfoldable pub unreliability_of : ℕ → ℕ → Profile → Float → Outcome Float
 unreliability_of n peer p down = outcome (unreliability_refusal n peer p) (chance_of p peer down)

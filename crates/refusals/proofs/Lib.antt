@@ -3,3 +3,4 @@ pub mod Checks
 pub mod Outcomes
 pub mod Peers
 pub mod Examples
+pub mod Entered

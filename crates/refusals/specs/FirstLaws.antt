@@ -3,12 +3,13 @@
 use Rattle.std.specs.Prelude.{◌≡◌, refl, ◌↔◌, ◌⊎◌, Bool, true, false, cond, List, [], ◌∷◌, ◌++◌, ℕ, zero, suc, ◌<◌, ltb}
 use Rattle.std.proofs.Common.{inl, inr, arith, ltb-true}
 use Rattle.std.proofs.Math.Bool.{and-eq-true_iff}
-use Rattle.lists.specs.All.{all, AllOf}
+use Rattle.std.specs.List.{list_all}
+use Rattle.lists.specs.All.{AllOf}
 use Rattle.refusals.specs.First.{Case, first_of}
 
 -- every number is above 0
 abbrev pub numbered : List Case → Bool
-numbered cs = all (λ (c : Case). ltb 0 c.1) cs
+numbered cs = list_all (λ (c : Case). ltb 0 c.1) cs
 
 -- no case holds
 abbrev pub NoneHolds : List Case → Type 0

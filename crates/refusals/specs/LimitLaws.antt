@@ -5,7 +5,7 @@ use Rattle.std.proofs.Math.Bool.{and-eq-true_iff}
 use Rattle.std.proofs.Math.Decide.{dec_lt, ℕ_discrete}
 use Rattle.std.proofs.Math.ListN.{get_or-eq_default}
 use Rattle.std.proofs.lemmas.Bool.{eqb-false, not-true, not-false}
-use Rattle.lists.specs.All.{all}
+use Rattle.std.specs.List.{list_all}
 use Rattle.lists.specs.AllLaws.{Each, all_means}
 use Rattle.lists.specs.BelowLaws.{none_below_means}
 use Rattle.bitmap.specs.Mask.{bit, all_below}
@@ -71,7 +71,7 @@ fault_set_means n f = (
   λ e.
       let p = (and-eq-true_iff (is_mask n f) (not (eqb f (all_below n)))).0 e in (
         (below_means n f).0 p.0,
-        λ all. eqb-false f (all_below n) (not-true (eqb f (all_below n)) p.1) (full n f (ltb-true f (2 ^ n) p.0) all),
+        λ list_all. eqb-false f (all_below n) (not-true (eqb f (all_below n)) p.1) (full n f (ltb-true f (2 ^ n) p.0) list_all),
       ),
   λ h.
       (and-eq-true_iff (is_mask n f) (not (eqb f (all_below n)))).1 (
@@ -97,16 +97,16 @@ pub fault_list_means : (n : ℕ) (faults : List ℕ) → (is_fault_list n faults
 unfolding is_fault_list
 fault_list_means n faults = (
   λ e.
-      let p = (and-eq-true_iff (not (eqb (length faults) 0)) (all (is_fault_set n) faults)).0 e in
+      let p = (and-eq-true_iff (not (eqb (length faults) 0)) (list_all (is_fault_set n) faults)).0 e in
       (eqb-false (length faults) 0 (not-true (eqb (length faults) 0) p.0), (all_means (is_fault_set n) 0 faults).0 p.1),
   λ h.
-      (and-eq-true_iff (not (eqb (length faults) 0)) (all (is_fault_set n) faults)).1
+      (and-eq-true_iff (not (eqb (length faults) 0)) (list_all (is_fault_set n) faults)).1
       (ap not (ne_eqb (length faults) 0 h.0), (all_means (is_fault_set n) 0 faults).1 h.1),
 )
 
 -- as many rows as replicas, each of shards below the width: what the checks for 16 and 17 ask of a table of rows
 abbrev pub AreRows : ℕ → ℕ → List ℕ → Type 0
-AreRows n w rows = (length rows ≡ n) × (all (is_row w) rows ≡ true)
+AreRows n w rows = (length rows ≡ n) × (list_all (is_row w) rows ≡ true)
 
 -- such rows of a width that has been tested have room in four words
 pub rows_small : (n w : ℕ) (rows : List ℕ) → AreRows n w rows → w ≤ most_shards → Rows rows

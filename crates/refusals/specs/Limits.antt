@@ -1,6 +1,6 @@
 -- The bounds of the port, as tests. Assumes nothing.
-use Rattle.std.specs.Prelude.{ℕ, ◌*◌, ◌^◌, Bool, not, ◌&&◌, List, leb, ltb, eqb, length}
-use Rattle.lists.specs.All.{all}
+use Rattle.std.specs.Prelude.{◌≡◌, ℕ, ◌*◌, ◌^◌, ◌<◌, Bool, not, ◌&&◌, List, leb, ltb, eqb, length}
+use Rattle.std.specs.List.{list_all}
 use Rattle.lists.specs.Below.{some_below}
 use Rattle.bitmap.specs.Mask.{is_below, all_below}
 use Rattle.rows.specs.Row.{rows_in}
@@ -45,6 +45,10 @@ is_overfull own p bytes = not (eqb p own) && not (is_in_flight bytes)
 unfoldable pub peers_fit : ℕ → ℕ → (ℕ → ℕ) → Bool
 peers_fit n own bytes = not (some_below (λ (p : ℕ). is_overfull own p (bytes p)) n)
 
+-- f gives the value that `value` has, at each number below n; `given p r` says that it may give r at p
+abbrev pub GivesBelow : (ℕ → ℕ → Type 0) → ℕ → (ℕ → ℕ) → Type 0
+GivesBelow given n value = (p r : ℕ) → p < n → given p r → r ≡ value p
+
 -- a mask with no replica at or above n
 abbrev pub is_mask : ℕ → ℕ → Bool
 is_mask n m = is_below n m
@@ -55,7 +59,7 @@ is_row w row = is_below w row
 
 -- a lent table of such rows; a last one that is not whole is tested too
 abbrev pub are_rows : ℕ → List ℕ → Bool
-are_rows w table = all (is_row w) (rows_in table)
+are_rows w table = list_all (is_row w) (rows_in table)
 
 -- a lent table of n rows, four words a row
 abbrev pub is_table : ℕ → ℕ → Bool
@@ -67,7 +71,7 @@ is_fault_set n f = is_mask n f && not (eqb f (all_below n))
 
 -- some sets, and each of them such a one
 unfoldable pub is_fault_list : ℕ → List ℕ → Bool
-is_fault_list n faults = not (eqb (length faults) 0) && all (is_fault_set n) faults
+is_fault_list n faults = not (eqb (length faults) 0) && list_all (is_fault_set n) faults
 
 -- a part of these: a mask below a limit, as a number
 abbrev pub is_under : ℕ → ℕ → Bool

@@ -1,10 +1,11 @@
-// The numbers that refuse, by name, and the range checks that several entries share.
+// Why an entry refuses, and the range checks that several entries share.
 #![tactic(auto)]
 
-ghost use Rattle.std.specs.Prelude.{◌≡◌, ◌≤◌};
-ghost use Rattle.lists.specs.All.{all};
+ghost use Rattle.std.specs.Prelude.{◌≡◌, ℕ, ◌≤◌, ◌<◌, cond};
+ghost use Rattle.std.specs.List.{list_all};
 ghost use Rattle.bitmap.specs.Mask.{is_below};
-ghost use Rattle.refusals.specs.Limits.{is_population, is_tolerance, is_replica, is_shards, is_quorum, is_size, is_in_flight, is_overfull, is_mask, is_row, are_rows, is_table, is_under, is_fault_list};
+ghost use Rattle.refusals.specs.Limits.{is_population, is_tolerance, is_replica, is_shards, is_quorum, is_size, is_in_flight, is_overfull, is_mask, is_row, are_rows, is_table, is_under, is_fault_list, peers_fit, GivesBelow};
+ghost use Rattle.refusals.specs.Refused.{number_of, refusal_of};
 ghost use Rattle.rows.specs.Row.{row_of};
 
 use bitmap::ReplicaId;
@@ -13,68 +14,71 @@ use rows::Row;
 // The most shards that a value is cut into.
 pub const MOST_SHARDS: usize = 255;
 
-// The population.
-pub const POPULATION: u8 = 1;
+// Why an entry refuses. The numbers are those of the C interface; a program names the case.
+#[derive(Clone, Copy, Debug, PartialEq, Eq)]
+pub enum Refusal {
+    // The population.
+    Population = 1,
+    // The fault tolerance.
+    Tolerance = 2,
+    // The own, a peer's or the source's number is not below the population.
+    Replica = 3,
+    // The data shards or the width.
+    Shards = 4,
+    // The quorum or the majority.
+    Quorum = 5,
+    // A text too long, or with a byte above 127.
+    Text = 6,
+    // A malformed numeral, or a whole number above 255.
+    Numeral = 7,
+    // A well-formed decimal beyond the digit rule.
+    Digits = 8,
+    // A replica or shard number in a text or a profile outside its range.
+    Member = 9,
+    // An unknown mechanism.
+    Mechanism = 10,
+    // Probabilities: their count, one of them, or the threshold.
+    Probabilities = 11,
+    // A 65th domain.
+    Domains = 12,
+    // A layout text that is neither a fitting number nor segments with colons.
+    Layout = 13,
+    // Total shards no multiple of the population, or data shards no multiple of the majority.
+    Multiple = 14,
+    // The size or the bytes in flight too large.
+    Bytes = 15,
+    // A row with a shard at or above the width, or a mask with a replica at or above the population.
+    Mask = 16,
+    // A lent table of the wrong length, or no fault list.
+    Table = 17,
+    // The profile and the tolerance give a set that contains every replica.
+    EveryReplica = 21,
+    // More maximal sets than words in the lent list.
+    Room = 22,
+    // A reply whose ballot or value id differs from the tally's.
+    OtherValue = 23,
+    // A trimmed plan that no longer commits.
+    Trimmed = 24,
+}
 
-// The fault tolerance.
-pub const TOLERANCE: u8 = 2;
+impl Refusal {
+    ghost use Rattle.refusals.specs.Refused.{number_of};
 
-// The own, a peer's or the source's number is not below the population.
-pub const REPLICA: u8 = 3;
+    // The number of the case.
+    pub fn number(self) -> u8
+        ensures { result ≡ number_of self }
+    {
+        self as u8
+    }
+}
 
-// The data shards or the width.
-pub const SHARDS: u8 = 4;
-
-// The quorum or the majority.
-pub const QUORUM: u8 = 5;
-
-// A text too long, or with a byte above 127.
-pub const TEXT: u8 = 6;
-
-// A malformed numeral, or a whole number above 255.
-pub const NUMERAL: u8 = 7;
-
-// A well-formed decimal beyond the digit rule.
-pub const DIGITS: u8 = 8;
-
-// A replica or shard number in a text or a profile outside its range.
-pub const MEMBER: u8 = 9;
-
-// An unknown mechanism.
-pub const MECHANISM: u8 = 10;
-
-// Probabilities: their count, one of them, or the threshold.
-pub const PROBABILITIES: u8 = 11;
-
-// A 65th domain.
-pub const DOMAINS: u8 = 12;
-
-// A layout text that is neither a fitting number nor segments with colons.
-pub const LAYOUT: u8 = 13;
-
-// Total shards no multiple of the population, or data shards no multiple of the majority.
-pub const MULTIPLE: u8 = 14;
-
-// The size or the bytes in flight too large.
-pub const BYTES: u8 = 15;
-
-// A row with a shard at or above the width, or a mask with a replica at or above the population.
-pub const MASK: u8 = 16;
-
-// A lent table of the wrong length, or no fault list.
-pub const TABLE: u8 = 17;
-
-// The profile and the tolerance give a set that contains every replica.
-pub const EVERY_REPLICA: u8 = 21;
-
-// More maximal sets than words in the lent list.
-pub const ROOM: u8 = 22;
-
-// A reply whose ballot or value id differs from the tally's.
-pub const OTHER_VALUE: u8 = 23;
-
-// A trimmed plan that no longer commits.
-pub const TRIMMED: u8 = 24;
+// Refuses unless the test holds.
+#[inline]
+pub fn unless(holds: bool, refusal: Refusal) -> Result<(), Refusal>
+    ensures { refusal_of result ≡ cond holds 0 (number_of refusal) }
+{
+    if holds { Ok(()) } else { Err(refusal) }
+}
 
 // From 1 to 16 replicas.
 pub fn is_population(n: usize) -> bool
@@ -147,6 +151,19 @@ pub fn is_overfull(own: ReplicaId, p: ReplicaId, bytes: u64) -> bool
     !is_in_flight(bytes)
 }
 
+// Whether to none of the peers are too many bytes in flight: of each replica `bytes` gives those in flight to it.
+pub fn peers_fit<F: Fn(usize) -> u64>(n: usize, own: ReplicaId, bytes: F) -> bool
+    requires { (p : ℕ) → p < n → F.pre bytes p }
+    ensures { (in_flight : ℕ → ℕ) → GivesBelow (F.post bytes) n in_flight → result ≡ peers_fit n own.0 in_flight }
+{
+    for p in 0..n {
+        if is_overfull(own, ReplicaId(p), bytes(p)) {
+            return false;
+        }
+    }
+    true
+}
+
 // A mask of some of n replicas.
 pub fn is_mask(n: usize, m: u64) -> bool
     ensures { result ≡ is_mask n m }
@@ -158,7 +175,7 @@ pub fn is_mask(n: usize, m: u64) -> bool
 pub fn is_row(w: usize, row: Row) -> bool
     ensures { result ≡ is_row w (row_of row) }
 {
-    rows::is_below(row, w)
+    row.is_below(w)
 }
 
 // Rows of shards below w, in a table of four words a row.
@@ -180,7 +197,7 @@ pub fn is_table(n: usize, words: usize) -> bool
 
 // Masks of some of n replicas.
 pub fn are_masks(n: usize, masks: &[u64]) -> bool
-    ensures { result ≡ all (is_mask n) masks.now }
+    ensures { result ≡ list_all (is_mask n) masks.now }
 {
     are_below(masks, n)
 }
@@ -198,30 +215,14 @@ pub fn is_fault_list(n: usize, faults: &[u64]) -> bool
 
 // Whether every mask is below the limit, as a number.
 fn are_under(masks: &[u64], limit: u64) -> bool
-    ensures { result ≡ all (is_under limit) masks.now }
+    ensures { result ≡ list_all (is_under limit) masks.now }
 {
-    let mut i = 0;
-    while i < masks.len() {
-        if masks[i] < limit {
-            i += 1;
-        } else {
-            return false;
-        }
-    }
-    true
+    masks.iter().all(|mask| *mask < limit)
 }
 
 // Whether every member of every mask is below w.
 fn are_below(masks: &[u64], w: usize) -> bool
-    ensures { result ≡ all (is_below w) masks.now }
+    ensures { result ≡ list_all (is_below w) masks.now }
 {
-    let mut i = 0;
-    while i < masks.len() {
-        if bitmap::is_below(masks[i], w) {
-            i += 1;
-        } else {
-            return false;
-        }
-    }
-    true
+    masks.iter().all(|mask| bitmap::is_below(*mask, w))
 }

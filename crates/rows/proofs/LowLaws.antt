@@ -2,7 +2,7 @@
 use Rattle.std.specs.Prelude.{◌≡◌, refl, true, List, [], ◌∷◌, ◌++◌, ℕ, ◌+◌, ◌*◌, ◌/◌, ◌%◌, ◌^◌, ◌≤◌, ◌<◌}
 use Rattle.std.proofs.Common.{ap₂, lt_of_lt_of_le, mod-eq_of_lt, arith, pow_mono, ltb-true}
 use Rattle.std.proofs.Math.Bool.{and-eq-true_iff}
-use Rattle.lists.specs.All.{all}
+use Rattle.std.specs.List.{list_all}
 use Rattle.bitmap.specs.Mask.{is_below}
 use Rattle.rows.specs.Row.{value, words_of, spelled}
 
@@ -25,10 +25,10 @@ abbrev pub spaced : List ℕ → List ℕ
 spaced [] = []
 spaced (m ∷ ms) = m ∷ 0 ∷ 0 ∷ 0 ∷ spaced ms
 
-pub spelled_low : (w : ℕ) (rows : List ℕ) → w ≤ 64 → all (is_below w) rows ≡ true → spelled rows ≡ spaced rows
+pub spelled_low : (w : ℕ) (rows : List ℕ) → w ≤ 64 → list_all (is_below w) rows ≡ true → spelled rows ≡ spaced rows
 unfolding spelled
 spelled_low w [] l h = refl
 spelled_low w (m ∷ ms) l h =
-    let p = (and-eq-true_iff (is_below w m) (all (is_below w) ms)).0 h in
+    let p = (and-eq-true_iff (is_below w m) (list_all (is_below w) ms)).0 h in
     let b : m < 2 ^ 64 = lt_of_lt_of_le (ltb-true m (2 ^ w) p.0) (pow_mono {i = w} {j = 64} l) in
     ap₂ ◌++◌ (words_low m b) (spelled_low w ms l p.1)

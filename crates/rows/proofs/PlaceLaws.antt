@@ -8,7 +8,7 @@ use Rattle.std.proofs.Math.Nat.{lt_of_lt_of_le}
 use Rattle.std.proofs.Math.Decide.{dec_lt}
 use Rattle.std.proofs.Math.ListN.{length, take, length-take}
 use Rattle.std.proofs.Math.Seq.{get_or-drop}
-use Rattle.lists.specs.All.{all}
+use Rattle.std.specs.List.{list_all}
 use Rattle.lists.specs.AllLaws.{all_means}
 use Rattle.bitmap.specs.Mask.{bit, is_below}
 use Rattle.bitmap.specs.MaskLaws.{below_bit, bits_below}
@@ -38,7 +38,7 @@ module _ (table : List ℕ) (h : Words table) where
 
   -- every row is below w exactly if no bit that is there is a shard at or above w
   pub table_below : (w : ℕ)
-      → (all (is_below w) (rows_in table) ≡ true) ↔ ((i t : ℕ) → t < 64 → w ≤ i % 4 * 64 + t → bit (get_or table i 0) t ≡ 0)
+      → (list_all (is_below w) (rows_in table) ≡ true) ↔ ((i t : ℕ) → t < 64 → w ≤ i % 4 * 64 + t → bit (get_or table i 0) t ≡ 0)
   table_below w = (
     λ e i t l k. sym (table_bit i t l)
         ∙ below_bit w (row_in table (i / 4)) (i % 4 * 64 + t) (row_below w table ((all_means (is_below w) 0 (rows_in table)).0 e) (i / 4)) k,

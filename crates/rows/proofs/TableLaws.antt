@@ -15,7 +15,7 @@ use Rattle.std.proofs.Math.ListN.{length, take, drop, get_or-eq_default}
 use Rattle.std.proofs.lemmas.List.{length-replicate}
 use Rattle.std.proofs.Math.Seq.{drop-nil, take-nil, take-append-add, drop-append-add, drop_at, sets-eq, length-sets}
 use Rattle.std.proofs.lemmas.List.Edits.{sets}
-use Rattle.lists.specs.All.{all}
+use Rattle.std.specs.List.{list_all}
 use Rattle.lists.specs.AllLaws.{Each}
 use Rattle.lists.specs.Below.{each_below}
 use Rattle.lists.specs.BelowLaws.{each_below_length, each_below_at, each_below_all}
@@ -152,7 +152,7 @@ or_below w a b = go (dec_lt a (2 ^ w)) (dec_lt b (2 ^ w))
     go (yes l) (no k) = rw (fails (λ h. k (right h)), lt-ltb a (2 ^ w) l, le-ltb b (2 ^ w) (omega arith))
     go (no l) k = rw (fails (λ h. l (left h)), le-ltb a (2 ^ w) (omega arith))
 
-all_append : (p : ℕ → Bool) (xs : List ℕ) (x : ℕ) → all p (xs ++ (x ∷ [])) ≡ (all p xs && p x)
+all_append : (p : ℕ → Bool) (xs : List ℕ) (x : ℕ) → list_all p (xs ++ (x ∷ [])) ≡ (list_all p xs && p x)
 all_append p [] x = go (p x)
   where
     go : (b : Bool) → (b && true) ≡ b
@@ -160,19 +160,19 @@ all_append p [] x = go (p x)
     go false = refl
 all_append p (y ∷ xs) x = go (p y) (all_append p xs x)
   where
-    go : (b : Bool) → all p (xs ++ (x ∷ [])) ≡ (all p xs && p x) → (b && all p (xs ++ (x ∷ []))) ≡ ((b && all p xs) && p x)
+    go : (b : Bool) → list_all p (xs ++ (x ∷ [])) ≡ (list_all p xs && p x) → (b && list_all p (xs ++ (x ∷ []))) ≡ ((b && list_all p xs) && p x)
     go true e = e
     go false e = refl
 
 module _ (w : ℕ) (f : ℕ → ℕ) where
-  pub united_below : (k : ℕ) → is_below w (unite_below f k) ≡ all (is_below w) (each_below f k)
+  pub united_below : (k : ℕ) → is_below w (unite_below f k) ≡ list_all (is_below w) (each_below f k)
   unfolding unite_below each_below
   united_below zero = lt-ltb 0 (2 ^ w) (pow_pos w)
   united_below (suc k) = or_below w (unite_below f k) (f k) ∙ ap (λ (b : Bool). b && is_below w (f k)) (united_below k)
       ∙ sym (all_append (is_below w) (each_below f k) (f k))
 
 -- a table has as many whole rows as its length has fours; one row more is the part that is left, or nothing
-pub all_rows_below : (w : ℕ) (table : List ℕ) → is_below w (unite_below (row_in table) (length table / 4 + 1)) ≡ all (is_below w) (rows_in table)
+pub all_rows_below : (w : ℕ) (table : List ℕ) → is_below w (unite_below (row_in table) (length table / 4 + 1)) ≡ list_all (is_below w) (rows_in table)
 unfolding rows_in
 all_rows_below w table = go (ℕ_discrete (length table % 4) 0)
   where
@@ -180,11 +180,11 @@ all_rows_below w table = go (ℕ_discrete (length table % 4) 0)
     n = length table / 4
 
     go : Dec (length table % 4 ≡ 0)
-        → is_below w (unite_below (row_in table) (length table / 4 + 1)) ≡ all (is_below w) (each_below (row_in table) ((length table + 3) / 4))
+        → is_below w (unite_below (row_in table) (length table / 4 + 1)) ≡ list_all (is_below w) (each_below (row_in table) ((length table + 3) / 4))
     go (yes e) =
         ap (is_below w) (one_more (row_in table) n (beyond table n (drop_of_length-le table {i = n * 4} (omega arith))))
         ∙ united_below w (row_in table) n
-        ∙ ap (λ (k : ℕ). all (is_below w) (each_below (row_in table) k)) (omega arith)
+        ∙ ap (λ (k : ℕ). list_all (is_below w) (each_below (row_in table) k)) (omega arith)
     go (no e) =
         ap (λ (k : ℕ). is_below w (unite_below (row_in table) k)) (omega arith) ∙ united_below w (row_in table) ((length table + 3) / 4)
 
@@ -205,7 +205,7 @@ module _ (w : ℕ) (wide : 192 ≤ w) (table : List ℕ) (h : Words table) where
       ∙ sym (or_below w (unite_below (row_in table) k) (row_in table k))
 
   -- a last row that is not whole has no last word
-  pub last_words_below : is_below (w - 192) (unite_below (last_in table) (length table / 4)) ≡ all (is_below w) (rows_in table)
+  pub last_words_below : is_below (w - 192) (unite_below (last_in table) (length table / 4)) ≡ list_all (is_below w) (rows_in table)
   last_words_below =
       let n = length table / 4 in
       ap (is_below (w - 192)) (sym (one_more (last_in table) n (get_or-eq_default table 0 {n = n * 4 + 3} (omega arith))))
@@ -275,7 +275,7 @@ no_row n s = sym (row_is (replicate n 0) s)
     ∙ rw (no_word n (s * 4), no_word n (s * 4 + 1), no_word n (s * 4 + 2), no_word n (s * 4 + 3)) empty
 
 -- each of the rows of a table's first n passes
-pub first_rows_below : (w n : ℕ) (table : List ℕ) → ((s : ℕ) → row_in table s < 2 ^ w) → all (is_below w) (rows_in (take (n * 4) table)) ≡ true
+pub first_rows_below : (w n : ℕ) (table : List ℕ) → ((s : ℕ) → row_in table s < 2 ^ w) → list_all (is_below w) (rows_in (take (n * 4) table)) ≡ true
 unfolding rows_in
 first_rows_below w n table h =
     let l = take (n * 4) table in

@@ -27,9 +27,6 @@ module _ (f : ℕ → ℕ) where
   unfolding unite_below
   unite_more acc s r u e q t = rw add-one (cc)
 
-  pub unite_done : (acc s n k : ℕ) → acc ≡ unite_below f s → s ≤ n → n ≤ s → n ≡ k → acc ≡ unite_below f k
-  unite_done acc s n k e l g q = e ∙ ap (unite_below f) (le_antisymm l g ∙ q)
-
   pub unite_last : (acc s n r u : ℕ) → acc ≡ unite_below f s → s ≤ n → n ≤ s → r ≡ f n → u ≡ bit_or acc r → u ≡ unite_below f (n + 1)
   unite_last acc s n r u e l g q t = unite_more acc n r u (e ∙ ap (unite_below f) (le_antisymm l g)) q t
 
@@ -59,11 +56,6 @@ module _ (table : List ℕ) where
       let r : g * 16 + 11 ≡ suc (suc s) * 4 + 3 = omega arith in
       let t : g * 16 + 15 ≡ suc (suc (suc s)) * 4 + 3 = omega arith in
       rw (k, ex, ey, ez, ew, p, q, r, t, ← e) (or_fours a b c d _ _ _ _)
-
-  pub fours_done : (a b c d g n k x y u : ℕ) → bit_or (bit_or a b) (bit_or c d) ≡ unite_below (last_in table) (g * 4) → g ≤ n → n ≤ g → n ≡ k
-      → x ≡ bit_or a b → y ≡ bit_or c d → u ≡ bit_or x y → u ≡ unite_below (last_in table) (k * 4)
-  fours_done a b c d g n k x y u e l h q ex ey eu =
-      rw (eu, ex, ey) (e ∙ ap (λ (m : ℕ). unite_below (last_in table) (m * 4)) (le_antisymm l h ∙ q))
 
 -- ---- words written after those at the front of a table
 pub front_words : (xs vs l : List ℕ) → length xs + length vs ≤ length l → sets (front xs l) (length xs) vs ≡ front (xs ++ vs) l

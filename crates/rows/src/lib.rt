@@ -1,21 +1,21 @@
 // Rows of shards as four words of 64 bits, the lowest shards first, and lent tables of them, four words a row.
 #![tactic(auto)]
 
-ghost use Rattle.std.specs.Prelude.{◌≡◌, ◌+◌, ◌-◌, ◌*◌, ◌/◌, ◌<◌, ◌≤◌, min, length, get_or, eqb, cond};
+ghost use Rattle.std.specs.Prelude.{◌≡◌, ℕ, List, ◌+◌, ◌-◌, ◌*◌, ◌/◌, ◌^◌, ◌<◌, ◌≤◌, min, length, get_or, eqb, cond};
+ghost use Rattle.std.specs.List.{list_all};
 ghost use Rattle.std.specs.Int.Bits.{bit_or};
-ghost use Rattle.lists.specs.All.{all};
 ghost use Rattle.lists.specs.Below.{each_below, front};
 ghost use Rattle.bitmap.specs.Mask.{has_bit, with_bit, is_below, count, run, run_modulo};
-ghost use Rattle.rows.specs.Row.{words, row_of, row_in, last_in, rows_in, unite_below, with_row, spelled, span};
+ghost use Rattle.rows.specs.Row.{words, row_of, row_in, low_in, last_in, rows_in, unite_below, with_row, spelled, span};
 
 // The number of a shard.
-#[derive(Clone, Copy)]
+#[derive(Clone, Copy, Debug, PartialEq, Eq)]
 pub struct ShardId(pub usize);
 
-// The shards that a replica holds, or those that a reply names: shard s is bit s % 64 of the word s / 64. Four fields and no array, so that
-// an enum can hold a row.
+// The shards that a replica holds, or those that a reply names: shard s is bit s % 64 of the word s / 64. The C interface passes it by
+// value.
 #[repr(C)]
-#[derive(Clone, Copy)]
+#[derive(Clone, Copy, Debug, PartialEq, Eq)]
 pub struct Row {
     pub w0: u64,
     pub w1: u64,
@@ -23,98 +23,264 @@ pub struct Row {
     pub w3: u64,
 }
 
-// A row of no shard.
-pub fn none() -> Row
-    ensures { row_of result ≡ 0 }
-{
-    Row {
-        w0: 0,
-        w1: 0,
-        w2: 0,
-        w3: 0,
+// A set of shards as machine words: a row, or its first word alone where every shard is below 64. What is written once over it runs on one
+// word where one is enough.
+pub trait ShardSet: Copy {
+    // The set as a number, whose bits are the members.
+    ghost members: { Self → ℕ };
+
+    // How many shards there is room for.
+    ghost room: { ℕ };
+
+    // What is read of the row of a replica in a table of four words a row.
+    ghost read: { List ℕ → ℕ → ℕ };
+
+    // The set of no shard.
+    fn none() -> Self
+        ensures { members result ≡ 0 };
+
+    // The shards of either set.
+    fn union(self, other: Self) -> Self
+        ensures { members result ≡ bit_or (members self) (members other) };
+
+    // How many shards the set has.
+    fn count(self) -> usize
+        ensures { result ≡ count (members self) };
+
+    // The set if the flag is 1, and no shard if it is 0. No branch on it.
+    fn taken(self, flag: u64) -> Self
+        requires { flag < 2 }
+        ensures { members result ≡ cond (eqb flag 1) (members self) 0 };
+
+    // The set of the replica s in a table. A part: the table has its row.
+    fn read_row(rows: &[u64], s: usize) -> Self
+        requires { s * 4 + 4 ≤ length rows.now }
+        ensures { members result ≡ read rows.now s };
+
+    // The k shards from that one on. A part: there is room for them.
+    fn run(from: ShardId, k: usize) -> Self
+        requires { from.0 + k ≤ room }
+        ensures { members result ≡ run from.0 k };
+
+    // The k shards from that one on, each modulo w. A part: k is at most w, for which there is room.
+    fn run_modulo(from: ShardId, k: usize, w: usize) -> Self
+        requires positive { 0 < w }
+        requires room { w ≤ room }
+        requires turn { k ≤ w }
+        ensures { members result ≡ run_modulo w from.0 k };
+
+    // The same shards as a row.
+    fn row(self) -> Row
+        ensures { row_of result ≡ members self };
+}
+
+impl ShardSet for u64 {
+    ghost members = { λ m. m };
+
+    ghost room = { 64 };
+
+    ghost read = { low_in };
+
+    #[inline]
+    fn none() -> u64 {
+        0
+    }
+
+    #[inline]
+    fn union(self, other: u64) -> u64 {
+        self | other
+    }
+
+    #[inline]
+    fn count(self) -> usize {
+        bitmap::count(self)
+    }
+
+    #[inline]
+    fn taken(self, flag: u64) -> u64 {
+        self * flag
+    }
+
+    #[inline]
+    fn read_row(rows: &[u64], s: usize) -> u64 {
+        rows[s * 4]
+    }
+
+    #[inline]
+    fn run(from: ShardId, k: usize) -> u64 {
+        bitmap::run(from.0, k)
+    }
+
+    #[inline]
+    fn run_modulo(from: ShardId, k: usize, w: usize) -> u64 {
+        bitmap::run_modulo(from.0, k, w)
+    }
+
+    #[inline]
+    fn row(self) -> Row {
+        Row {
+            w0: self,
+            w1: 0,
+            w2: 0,
+            w3: 0,
+        }
     }
 }
 
-// Whether the shard s is in the row.
-pub fn has_shard(row: Row, s: ShardId) -> bool
-    ensures { result ≡ has_bit (row_of row) s.0 }
-{
-    let k = s.0;
-    bitmap::bit_at(word_of(row, k / 64), k % 64)
+impl ShardSet for Row {
+    ghost members = { row_of };
+
+    ghost room = { 256 };
+
+    ghost read = { row_in };
+
+    #[inline]
+    fn none() -> Row {
+        Row {
+            w0: 0,
+            w1: 0,
+            w2: 0,
+            w3: 0,
+        }
+    }
+
+    #[inline]
+    fn union(self, other: Row) -> Row {
+        Row {
+            w0: self.w0 | other.w0,
+            w1: self.w1 | other.w1,
+            w2: self.w2 | other.w2,
+            w3: self.w3 | other.w3,
+        }
+    }
+
+    #[inline]
+    fn count(self) -> usize {
+        let low = bitmap::count(self.w0) + bitmap::count(self.w1);
+        low + bitmap::count(self.w2) + bitmap::count(self.w3)
+    }
+
+    #[inline]
+    fn taken(self, flag: u64) -> Row {
+        let all = flag * 0xffff_ffff_ffff_ffff;
+        Row {
+            w0: self.w0 & all,
+            w1: self.w1 & all,
+            w2: self.w2 & all,
+            w3: self.w3 & all,
+        }
+    }
+
+    #[inline]
+    fn read_row(rows: &[u64], s: usize) -> Row {
+        let at = s * 4;
+        Row {
+            w0: rows[at],
+            w1: rows[at + 1],
+            w2: rows[at + 2],
+            w3: rows[at + 3],
+        }
+    }
+
+    // Most often the first word has them all.
+    #[inline]
+    fn run(from: ShardId, k: usize) -> Row {
+        if from.0 + k <= 64 {
+            return u64::run(from, k).row();
+        }
+        run_across(from.0, k)
+    }
+
+    // Up to a width of 64 the first word has them all.
+    #[inline]
+    fn run_modulo(from: ShardId, k: usize, w: usize) -> Row {
+        if w <= 64 {
+            return u64::run_modulo(from, k, w).row();
+        }
+        run_modulo_across(from.0, k, w)
+    }
+
+    #[inline]
+    fn row(self) -> Row {
+        self
+    }
 }
 
-// The row with the shard s. A part: a row has room for shards below 256.
-pub fn with_shard(row: Row, s: ShardId) -> Row
-    requires { s.0 < 256 }
-    ensures { row_of result ≡ with_bit (row_of row) s.0 }
-{
-    union(row, run(s, 1))
-}
+impl Row {
+    // Whether the shard s is in the row.
+    pub fn has(self, s: ShardId) -> bool
+        ensures { result ≡ has_bit (row_of self) s.0 }
+    {
+        let k = s.0;
+        bitmap::bit_at(self.word(k / 64), k % 64)
+    }
 
-// The shards of either row.
-pub fn union(a: Row, b: Row) -> Row
-    ensures { row_of result ≡ bit_or (row_of a) (row_of b) }
-{
-    Row {
-        w0: a.w0 | b.w0,
-        w1: a.w1 | b.w1,
-        w2: a.w2 | b.w2,
-        w3: a.w3 | b.w3,
+    // The row with the shard s. A part: a row has room for shards below 256.
+    pub fn with(self, s: ShardId) -> Row
+        requires { s.0 < 256 }
+        ensures { row_of result ≡ with_bit (row_of self) s.0 }
+    {
+        self.union(Row::run(s, 1))
     }
-}
 
-// Whether the two rows have the same shards.
-pub fn same(a: Row, b: Row) -> bool
-    ensures { result ≡ eqb (row_of a) (row_of b) }
-{
-    if a.w0 != b.w0 {
-        return false;
+    // Whether every shard of the row is below w.
+    pub fn is_below(self, w: usize) -> bool
+        ensures { result ≡ is_below w (row_of self) }
+    {
+        if !bitmap::is_below(self.w0, w) {
+            return false;
+        }
+        let w1 = past(w);
+        if !bitmap::is_below(self.w1, w1) {
+            return false;
+        }
+        let w2 = past(w1);
+        if !bitmap::is_below(self.w2, w2) {
+            return false;
+        }
+        bitmap::is_below(self.w3, past(w2))
     }
-    if a.w1 != b.w1 {
-        return false;
-    }
-    if a.w2 != b.w2 {
-        return false;
-    }
-    a.w3 == b.w3
-}
 
-// How many shards the row has.
-pub fn count(row: Row) -> usize
-    ensures { result ≡ count (row_of row) }
-{
-    let low = bitmap::count(row.w0) + bitmap::count(row.w1);
-    low + bitmap::count(row.w2) + bitmap::count(row.w3)
-}
+    // Writes the row of the replica s into a table. A part: the table has it.
+    pub fn put(self, rows: &mut [u64], s: usize)
+        requires { s * 4 + 4 ≤ length rows.old }
+        ensures { rows.new ≡ with_row rows.old s (row_of self) }
+    {
+        let at = s * 4;
+        rows[at] = self.w0;
+        rows[at + 1] = self.w1;
+        rows[at + 2] = self.w2;
+        rows[at + 3] = self.w3;
+    }
 
-// Whether every shard of the row is below w.
-pub fn is_below(row: Row, w: usize) -> bool
-    ensures { result ≡ is_below w (row_of row) }
-{
-    if !bitmap::is_below(row.w0, w) {
-        return false;
+    // Makes each of the first n rows of the table the same. A part: the table has them.
+    pub fn fill(self, n: usize, rows: &mut [u64])
+        requires { n * 4 ≤ length rows.old }
+        ensures { rows.new ≡ front (spelled (each_below (λ _. row_of self) n)) rows.old }
+    {
+        for s in 0..n {
+            self.put(rows, s);
+        }
     }
-    let w1 = past(w);
-    if !bitmap::is_below(row.w1, w1) {
-        return false;
-    }
-    let w2 = past(w1);
-    if !bitmap::is_below(row.w2, w2) {
-        return false;
-    }
-    bitmap::is_below(row.w3, past(w2))
-}
 
-// The k shards from that one on. A part: they are all below 256. Most often the first word has them all.
-pub fn run(from: ShardId, k: usize) -> Row
-    requires { from.0 + k ≤ 256 }
-    ensures { row_of result ≡ run from.0 k }
-{
-    let a = from.0;
-    if a + k <= 64 {
-        return low(bitmap::run(a, k));
+    // The word j; there is none past the last.
+    fn word(self, j: usize) -> u64
+        ensures { result ≡ get_or (words self) j 0 }
+    {
+        if j == 0 {
+            return self.w0;
+        }
+        if j == 1 {
+            return self.w1;
+        }
+        if j == 2 {
+            return self.w2;
+        }
+        if j == 3 {
+            return self.w3;
+        }
+        0
     }
-    run_across(a, k)
 }
 
 // The same, of all four words.
@@ -134,18 +300,6 @@ fn run_across(a: usize, k: usize) -> Row
     Row { w0, w1, w2, w3 }
 }
 
-// The k shards from that one on, each modulo w. A part: k is at most w, and w from 1 to 256. Up to a width of 64 the first word has them
-// all.
-pub fn run_modulo(from: ShardId, k: usize, w: usize) -> Row
-    requires { (0 < w) × (w ≤ 256) × (k ≤ w) }
-    ensures { row_of result ≡ run_modulo w from.0 k }
-{
-    if w <= 64 {
-        return low(bitmap::run_modulo(from.0, k, w));
-    }
-    run_modulo_across(from.0, k, w)
-}
-
 // The same, of all four words.
 fn run_modulo_across(from: usize, k: usize, w: usize) -> Row
     requires { (0 < w) × (w ≤ 256) × (k ≤ w) }
@@ -153,35 +307,9 @@ fn run_modulo_across(from: usize, k: usize, w: usize) -> Row
 {
     let a = from % w;
     if a + k <= w {
-        return run(ShardId(a), k);
+        return Row::run(ShardId(a), k);
     }
-    union(run(ShardId(a), w - a), run(ShardId(0), a + k - w))
-}
-
-// The row whose shards are all in the first word.
-pub fn low(m: u64) -> Row
-    ensures { row_of result ≡ m }
-{
-    Row {
-        w0: m,
-        w1: 0,
-        w2: 0,
-        w3: 0,
-    }
-}
-
-// The row of the replica s in a table. A part: the table has it.
-pub fn row_in(rows: &[u64], s: usize) -> Row
-    requires { s * 4 + 4 ≤ length rows.now }
-    ensures { row_of result ≡ row_in rows.now s }
-{
-    let at = s * 4;
-    Row {
-        w0: rows[at],
-        w1: rows[at + 1],
-        w2: rows[at + 2],
-        w3: rows[at + 3],
-    }
+    Row::run(ShardId(a), w - a).union(Row::run(ShardId(0), a + k - w))
 }
 
 // The row of the replica s, of which the table may have a part or nothing: a word that it does not have counts as 0. A part: s is no larger
@@ -191,31 +319,22 @@ fn part_in(rows: &[u64], s: usize) -> Row
     ensures { row_of result ≡ row_in rows.now s }
 {
     let at = s * 4;
-    let w0 = word(rows, at);
-    let w1 = word(rows, at + 1);
-    let w2 = word(rows, at + 2);
-    let w3 = word(rows, at + 3);
+    let w0 = bitmap::word_at(rows, at);
+    let w1 = bitmap::word_at(rows, at + 1);
+    let w2 = bitmap::word_at(rows, at + 2);
+    let w3 = bitmap::word_at(rows, at + 3);
     Row { w0, w1, w2, w3 }
-}
-
-fn word(rows: &[u64], i: usize) -> u64
-    ensures { result ≡ get_or rows.now i 0 }
-{
-    if i < rows.len() {
-        return rows[i];
-    }
-    0
 }
 
 // Whether every shard of every row of the table is below w: all rows are united, and that union is tested once. From a width of 192 on only
 // the last word of a row can have a shard that is not.
 pub fn are_below(rows: &[u64], w: usize) -> bool
-    ensures { result ≡ all (is_below w) (rows_in rows.now) }
+    ensures { result ≡ list_all (is_below w) (rows_in rows.now) }
 {
     if 192 <= w {
         return bitmap::is_below(last_of(rows), w - 192);
     }
-    is_below(all_of(rows), w)
+    all_of(rows).is_below(w)
 }
 
 // The last words of all rows, united. A row that is not whole has none.
@@ -224,10 +343,8 @@ fn last_of(rows: &[u64]) -> u64
 {
     let n = rows.len() / 4;
     let mut acc = last_of_fours(rows);
-    let mut s = rows.len() / 16 * 4;
-    while s < n {
-        acc = bitmap::union(acc, rows[s * 4 + 3]);
-        s += 1;
+    for s in rows.len() / 16 * 4..n {
+        acc |= rows[s * 4 + 3];
     }
     acc
 }
@@ -242,16 +359,14 @@ fn last_of_fours(rows: &[u64]) -> u64
     let mut b = 0;
     let mut c = 0;
     let mut d = 0;
-    let mut g = 0;
-    while g < n {
+    for g in 0..n {
         let at = g * 16;
-        a = bitmap::union(a, rows[at + 3]);
-        b = bitmap::union(b, rows[at + 7]);
-        c = bitmap::union(c, rows[at + 11]);
-        d = bitmap::union(d, rows[at + 15]);
-        g += 1;
+        a |= rows[at + 3];
+        b |= rows[at + 7];
+        c |= rows[at + 11];
+        d |= rows[at + 15];
     }
-    bitmap::union(bitmap::union(a, b), bitmap::union(c, d))
+    (a | b) | (c | d)
 }
 
 // The shards of all rows, also of a last one that is not whole.
@@ -259,84 +374,25 @@ fn all_of(rows: &[u64]) -> Row
     ensures { row_of result ≡ unite_below (row_in rows.now) (length rows.now / 4 + 1) }
 {
     let n = rows.len() / 4;
-    let mut acc = none();
-    let mut s = 0;
-    while s < n {
-        acc = union(acc, row_in(rows, s));
-        s += 1;
+    let mut acc = Row::none();
+    for s in 0..n {
+        acc = acc.union(Row::read_row(rows, s));
     }
-    union(acc, part_in(rows, n))
-}
-
-// The row if the flag is 1, and no shard if it is 0. No branch on it.
-pub fn taken(row: Row, flag: u64) -> Row
-    requires { flag < 2 }
-    ensures { row_of result ≡ cond (eqb flag 1) (row_of row) 0 }
-{
-    let all = flag * 0xffff_ffff_ffff_ffff;
-    Row {
-        w0: row.w0 & all,
-        w1: row.w1 & all,
-        w2: row.w2 & all,
-        w3: row.w3 & all,
-    }
-}
-
-// Writes the row of the replica s into a table. A part: the table has it.
-pub fn put(row: Row, rows: &mut [u64], s: usize)
-    requires { s * 4 + 4 ≤ length rows.old }
-    ensures { rows.new ≡ with_row rows.old s (row_of row) }
-{
-    let at = s * 4;
-    rows[at] = row.w0;
-    rows[at + 1] = row.w1;
-    rows[at + 2] = row.w2;
-    rows[at + 3] = row.w3;
-}
-
-// Makes each of the first n rows of the table the same. A part: the table has them.
-pub fn fill(row: Row, n: usize, rows: &mut [u64])
-    requires { n * 4 ≤ length rows.old }
-    ensures { rows.new ≡ front (spelled (each_below (λ _. row_of row) n)) rows.old }
-{
-    let mut s = 0;
-    while s < n {
-        put(row, rows, s);
-        s += 1;
-    }
-}
-
-// The word j; there is none past the last.
-fn word_of(row: Row, j: usize) -> u64
-    ensures { result ≡ get_or (words row) j 0 }
-{
-    if j == 0 {
-        return row.w0;
-    }
-    if j == 1 {
-        return row.w1;
-    }
-    if j == 2 {
-        return row.w2;
-    }
-    if j == 3 {
-        return row.w3;
-    }
-    0
+    acc.union(part_in(rows, n))
 }
 
 // What lies above the first word: 64 less, and at least 0.
 fn past(x: usize) -> usize
     ensures { result ≡ x - 64 }
 {
-    if x < 64 { 0 } else { x - 64 }
+    x.saturating_sub(64)
 }
 
 // The part in the first word.
 fn within(x: usize) -> usize
     ensures { result ≡ min x 64 }
 {
-    if x < 64 { x } else { 64 }
+    x.min(64)
 }
 
 // The members from a up to e that the first word has.

@@ -1,142 +1,130 @@
 // Runs the site sheet's lines on texts and on the bounds: a line for each, with the number that refuses or what was read.
 #![tactic(auto)]
 
-use layout::{Laid, TotalShards};
-use layout_text::Init;
-use profile_text::Reading;
+use layout::TotalShards;
+use printed::{Bits, Shards};
+use refusals::Refusal;
+use rows::{Row, ShardSet};
+use std::{fmt, io};
 
-fn main() {
-    text(b"3");
-    text(b"1");
-    text(b"5");
-    text(b"256");
-    text(b" 3");
-    text(b"3:0");
-    text(b"0:");
-    bounds();
-    profile(b"probs:0.12345678901234");
-    profile(b"probs:0.123456789012345");
-    profile(b"probs:1e22");
-    profile(b"probs:1e23");
-    others();
+fn main(rt: HostRuntime) -> io::Result<()> {
+    for text in ["3", "1", "5", "256", " 3", "3:0", "0:"] {
+        layout_text(&rt, text)?;
+    }
+    bounds(&rt)?;
+    for text in [
+        "probs:0.12345678901234",
+        "probs:0.123456789012345",
+        "probs:1e22",
+        "probs:1e23",
+    ] {
+        profile(&rt, text)?;
+    }
+    others(&rt)
 }
 
 // Texts that the sheet does not have.
-fn others() {
-    text(b"");
-    text(b"0:0,1/1:2/0:5");
-    profile(b"probs:1e-3@1");
-    profile(b"probs:x@1e23");
-    profile(b"none; runtime:x");
-    profile(b"domains:0/1");
-    profile(b"unknown");
+fn others(rt: &impl Print) -> io::Result<()> {
+    for text in ["", "0:0,1/1:2/0:5"] {
+        layout_text(rt, text)?;
+    }
+    for text in [
+        "probs:1e-3@1",
+        "probs:x@1e23",
+        "none; runtime:x",
+        "domains:0/1",
+        "unknown",
+    ] {
+        profile(rt, text)?;
+    }
+    Ok(())
 }
 
 // A layout text of 3 replicas, 6 shards in all and 4 data shards.
-fn text(s: &[u8]) {
+fn layout_text(rt: &impl Print, text: &str) -> io::Result<()> {
     let mut rows = [0u64; 12];
-    initial(3, 6, 4, s, &mut rows);
+    initial(rt, 3, 6, 4, text, &mut rows)
 }
 
 // n 16 and 17, w 255 and 256: the width of a layout text, which is exact, and a ceiling.
-fn bounds() {
+fn bounds(rt: &impl Print) -> io::Result<()> {
     let mut sixteen = [0u64; 64];
     let mut seventeen = [0u64; 68];
     let mut fifteen = [0u64; 60];
-    initial(16, 64, 4, b"", &mut sixteen);
-    initial(17, 34, 4, b"", &mut seventeen);
-    initial(15, 255, 4, b"", &mut fifteen);
-    initial(16, 256, 4, b"", &mut sixteen);
-    let full = [4usize; 16];
-    let over = [4usize; 17];
-    let wide = [16usize; 16];
-    laid(16, 5, 64, &full, &mut sixteen);
-    laid(17, 5, 64, &over, &mut seventeen);
-    laid(16, 17, 255, &wide, &mut sixteen);
-    laid(16, 17, 256, &wide, &mut sixteen);
+    initial(rt, 16, 64, 4, "", &mut sixteen)?;
+    initial(rt, 17, 34, 4, "", &mut seventeen)?;
+    initial(rt, 15, 255, 4, "", &mut fifteen)?;
+    initial(rt, 16, 256, 4, "", &mut sixteen)?;
+    laid(rt, 5, 64, [4; 16], &mut sixteen)?;
+    laid(rt, 5, 64, [4; 17], &mut seventeen)?;
+    laid(rt, 17, 255, [16; 16], &mut sixteen)?;
+    laid(rt, 17, 256, [16; 16], &mut sixteen)
 }
 
 // A layout text: the rows.
-fn initial(n: usize, total: usize, d: usize, s: &[u8], rows: &mut [u64]) {
-    printed::number(b"n ", n);
-    printed::number(b", total ", total);
-    printed::number(b", d ", d);
-    io::write_all(1, b", `");
-    io::write_all(1, s);
-    io::write_all(1, b"`: ");
-    match layout_text::parse_init_assignment(n, d, total, s, rows) {
-        Init::Refused(no) => {
-            refused(no);
-        }
-        Init::Rows => {
-            print_rows(rows);
-        }
+fn initial(
+    rt: &impl Print,
+    n: usize,
+    total: usize,
+    d: usize,
+    text: &str,
+    rows: &mut [u64],
+) -> io::Result<()> {
+    print!(rt; "n {n}, total {total}, d {d}, `{text}`: ")?;
+    match layout_text::parse_init_assignment(n, d, total, text.as_bytes(), rows) {
+        Err(refusal) => refused(rt, refusal),
+        Ok(()) => println!(rt; "{}", Rows(rows)),
     }
 }
 
-// A layout of equal loads under a ceiling: the width and the rows.
-fn laid(n: usize, d: usize, ceiling: usize, loads: &[usize], rows: &mut [u64]) {
-    if loads.len() == 0 {
-        return;
-    }
-    printed::number(b"n ", n);
-    printed::number(b", d ", d);
-    printed::number(b", loads of ", loads[0]);
-    printed::number(b", ceiling ", ceiling);
-    io::write_all(1, b": ");
-    match layout::layout_rows(n, d, TotalShards::AtMost(ceiling), loads, rows) {
-        Laid::Refused(no) => {
-            refused(no);
-        }
-        Laid::Width(w) => {
-            printed::number(b"w ", w);
-            io::write_all(1, b"; rows ");
-            print_rows(rows);
-        }
+// A layout of loads, of which the first is named, under a ceiling: the width and the rows.
+fn laid<const N: usize>(
+    rt: &impl Print,
+    d: usize,
+    ceiling: usize,
+    loads: [usize; N],
+    rows: &mut [u64],
+) -> io::Result<()> {
+    let load = loads.first().copied().unwrap_or(0);
+    print!(rt; "n {N}, d {d}, loads of {load}, ceiling {ceiling}: ")?;
+    match layout::layout_rows(N, d, TotalShards::AtMost(ceiling), &loads, rows) {
+        Err(refusal) => refused(rt, refusal),
+        Ok(width) => println!(rt; "w {width}; rows {}", Rows(rows)),
     }
 }
 
 // A profile's text of 1 replica: how many domains, how many probabilities, the first of these and the threshold.
-fn profile(s: &[u8]) {
-    io::write_all(1, b"n 1, `");
-    io::write_all(1, s);
-    io::write_all(1, b"`: ");
-    let r = profile_text::parse_profile(1, s);
-    let a = r.answer;
-    match a {
-        Reading::Refused(no) => {
-            refused(no);
-        }
-        Reading::Read => {
-            let p = r.profile;
-            printed::number(b"domains ", p.domain_count);
-            printed::number(b", probabilities ", p.prob_count);
-            float(b", the first ", p.probs[0]);
-            float(b", threshold ", p.threshold);
-            io::write_all(1, b"\n");
+fn profile(rt: &impl Print, text: &str) -> io::Result<()> {
+    print!(rt; "n 1, `{text}`: ")?;
+    match profile_text::parse_profile(1, text.as_bytes()) {
+        Err(refusal) => refused(rt, refusal),
+        Ok(profile) => {
+            println!(rt;
+                "domains {}, probabilities {}, the first {}, threshold {}",
+                profile.domain_count,
+                profile.prob_count,
+                Bits(profile.probs[0]),
+                Bits(profile.threshold)
+            )
         }
     }
 }
 
-// The shards of each row.
-fn print_rows(rows: &[u64]) {
-    for s in 0..rows.len() / 4 {
-        if s > 0 {
-            io::write_all(1, b"; ");
+fn refused(rt: &impl Print, refusal: Refusal) -> io::Result<()> {
+    println!(rt; "refused {}", refusal.number())
+}
+
+// The shards of each row of a table.
+#[derive(Clone, Copy)]
+struct Rows<'a>(&'a [u64]);
+
+impl fmt::Display for Rows<'_> {
+    fn fmt<W: fmt::Write>(&self, f: &mut fmt::Formatter<W>) -> fmt::Result {
+        let rows = self.0;
+        for s in 0..rows.len() / 4 {
+            let separator = if s == 0 { "" } else { "; " };
+            write!(f, "{separator}{}", Shards(Row::read_row(rows, s)))?;
         }
-        printed::shards(rows::row_in(rows, s));
+        Ok(())
     }
-    io::write_all(1, b"\n");
-}
-
-// A double's bits. What is read is always finite.
-fn float(name: &[u8], x: f64) {
-    io::write_all(1, name);
-    printed::bits(x);
-}
-
-fn refused(no: u8) {
-    io::write_all(1, b"refused ");
-    io::print_decimal(1, no as u64);
-    io::write_all(1, b"\n");
 }

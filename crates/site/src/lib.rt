@@ -11,352 +11,188 @@
 // check it for themselves.
 #![tactic(auto)]
 
-ghost use Rattle.std.specs.Prelude.{◌≤◌, length};
+ghost use Rattle.std.specs.Prelude.{length};
+ghost use Rattle.std.specs.Iterator.{at_most};
 
-use decimals::Decimal;
 use layout::TotalShards;
+use std::ops::RangeInclusive;
 
-// A line of a description: where it begins, and its number from 1. No line has the number 0.
+mod key;
+mod peer;
+
+pub use key::{Key, UnknownKey};
+pub use peer::{Name, PeerText, UnknownName};
+
+// A number above this one has no room for another digit.
+const MOST: u64 = 1_000_000_000_000_000_000;
+
+// The text of a description.
 #[derive(Clone, Copy)]
-pub struct Place {
-    pub at: usize,
-    pub number: u64,
-}
+pub struct Description<'a>(pub &'a [u8]);
 
-// A whole number, or what is none.
-#[derive(Clone, Copy)]
-pub enum Whole {
-    Malformed,
-    Value(u64),
-}
-
-// A width, or what is none.
-#[derive(Clone, Copy)]
-pub enum Width {
-    Malformed,
-    Total(TotalShards),
-}
-
-// ---- lines and words
-
-// What the line at a place says.
-pub fn line(text: &[u8], at: usize) -> &[u8] {
-    if text.len() < at {
-        return &text[..0];
+impl<'a> Description<'a> {
+    pub fn lines(self) -> Lines<'a> {
+        Lines {
+            parts: numerals::split(self.0, b'\n'),
+            number: 0,
+        }
     }
-    said(numerals::part(text, at, b'\n'))
+
+    // The first line of a key.
+    pub fn first(self, key: Key) -> Option<Line<'a>> {
+        self.lines().find(|line| line.key() == Ok(key))
+    }
+
+    // The first line of a peer whose number is in a range.
+    pub fn first_peer(self, peers: RangeInclusive<u64>) -> Option<Line<'a>> {
+        self.lines().find(|line| line.is_of_peer(&peers))
+    }
+
+    // What the first line of a key says after it; empty if there is none.
+    pub fn value_of(self, key: Key) -> &'a [u8] {
+        match self.first(key) {
+            None => &self.0[..0],
+            Some(line) => line.value(),
+        }
+    }
+
+    // The whole number of a key, or 0.
+    pub fn number_of(self, key: Key) -> u64 {
+        number(self.value_of(key))
+    }
+
+    // The decimal of a key, or 0.
+    pub fn float_of(self, key: Key) -> f64 {
+        float(self.value_of(key))
+    }
+
+    // The width, or none at all where it is malformed.
+    pub fn total(self) -> TotalShards {
+        read_width(self.value_of(Key::Width)).unwrap_or(TotalShards::Exactly(0))
+    }
+
+    // What is said of a peer.
+    pub fn peer(self, p: u64) -> Option<PeerText<'a>> {
+        let line = self.first_peer(p..=p)?;
+        Some(line.peer())
+    }
 }
 
-// Where the line that begins at a place ends.
-pub fn line_end(text: &[u8], at: usize) -> usize
-    requires { at ≤ length text.now }
-    ensures { (at ≤ result) × (result ≤ length text.now) }
-{
-    at + numerals::part(text, at, b'\n').len()
+// A line of a description: its number, from 1, and what it says without its comment, trimmed.
+#[derive(Clone, Copy)]
+pub struct Line<'a> {
+    pub number: u64,
+    pub said: &'a [u8],
 }
 
-// A line without its comment, trimmed.
-fn said(s: &[u8]) -> &[u8] {
-    numerals::trimmed(numerals::part(s, 0, b'#'))
+impl<'a> Line<'a> {
+    // What its first word means.
+    pub fn key(self) -> Result<Key, UnknownKey> {
+        Key::try_from(self.first_word())
+    }
+
+    pub fn first_word(self) -> &'a [u8] {
+        word(self.said, 0)
+    }
+
+    // What it says after its first word.
+    pub fn value(self) -> &'a [u8] {
+        after_word(self.said)
+    }
+
+    // What it says of a peer, where its key is `peer`.
+    pub fn peer(self) -> PeerText<'a> {
+        PeerText(self.value())
+    }
+
+    fn is_of_peer(self, peers: &RangeInclusive<u64>) -> bool {
+        let p = number(self.peer().number());
+        self.key() == Ok(Key::Peer) && peers.contains(&p)
+    }
 }
+
+// The lines of a description that are left, and the number of the one before them.
+#[derive(Drop)]
+pub struct Lines<'a> {
+    parts: numerals::Parts<'a>,
+    number: u64,
+}
+
+impl<'a> Iterator for Lines<'a> {
+    type Item = Line<'a>;
+
+    ghost remaining = { λ lines. at_most (length lines.parts) };
+
+    fn next(&mut self) -> Option<Line<'a>> {
+        let part = self.parts.next()?;
+        self.number = self.number.wrapping_add(1);
+        Some(Line {
+            number: self.number,
+            said: without_comment(part),
+        })
+    }
+}
+
+fn without_comment(s: &[u8]) -> &[u8] {
+    let end = s.iter().position(|b| *b == b'#').unwrap_or(s.len());
+    numerals::trimmed(&s[..end])
+}
+
+// ---- words
 
 // Word k of s, from 0; empty if there are no more than k.
 pub fn word(s: &[u8], k: usize) -> &[u8] {
-    let a = word_at(s, k);
-    let e = word_end(s, a);
-    &s[a..e]
+    let mut words = s
+        .split(|b| numerals::is_blank(*b))
+        .filter(|w| !w.is_empty());
+    words.nth(k).unwrap_or(&s[..0])
 }
 
-// s from word k on.
-fn from_word(s: &[u8], k: usize) -> &[u8] {
-    let a = word_at(s, k);
-    &s[a..]
-}
-
-// Where word k of s begins.
-fn word_at(s: &[u8], k: usize) -> usize
-    ensures { result ≤ length s.now }
-{
-    let mut at = gap_end(s, 0);
-    let mut left = k;
-    while 0 < left {
-        at = gap_end(s, word_end(s, at));
-        left -= 1;
-    }
-    at
-}
-
-// Where the word at a place ends.
-fn word_end(s: &[u8], at: usize) -> usize
-    requires { at ≤ length s.now }
-    ensures { (at ≤ result) × (result ≤ length s.now) }
-{
-    let mut i = at;
-    while i < s.len() {
-        if numerals::is_blank(s[i]) {
-            return i;
-        }
-        i += 1;
-    }
-    i
-}
-
-// Where the blanks at a place end.
-fn gap_end(s: &[u8], at: usize) -> usize
-    requires { at ≤ length s.now }
-    ensures { result ≤ length s.now }
-{
-    let mut i = at;
-    while i < s.len() {
-        if !numerals::is_blank(s[i]) {
-            return i;
-        }
-        i += 1;
-    }
-    i
-}
-
-// ---- keys
-
-// The first line of a key; where the key is `peer`, of a peer from one number to another.
-pub fn find(text: &[u8], key: &[u8], from: u64, to: u64) -> Place {
-    let mut at: usize = 0;
-    let mut number: u64 = 1;
-    loop {
-        if is_of(line(text, at), key, from, to) {
-            return Place {
-                at: at,
-                number: number,
-            };
-        }
-        at = line_end(text, at);
-        if text.len() <= at {
-            return Place { at: at, number: 0 };
-        }
-        at += 1;
-        number = std::num::wrapping_add_u64(number, 1);
-    }
-}
-
-fn is_of(s: &[u8], key: &[u8], from: u64, to: u64) -> bool {
-    if !numerals::same(word(s, 0), key) {
-        return false;
-    }
-    if !numerals::same(key, b"peer") {
-        return true;
-    }
-    let p = number(word(s, 1));
-    from <= p && p <= to
-}
-
-// Whether a description has this key.
-pub fn is_key(s: &[u8]) -> bool {
-    is_number_key(s)
-        | numerals::same(s, b"width")
-        | numerals::same(s, b"penalty")
-        | numerals::same(s, b"profile")
-        | numerals::same(s, b"peer")
-}
-
-// Whether it is one whose value is a whole number.
-pub fn is_number_key(s: &[u8]) -> bool {
-    numerals::same(s, b"population")
-        | numerals::same(s, b"own")
-        | numerals::same(s, b"tolerance")
-        | numerals::same(s, b"quorum")
-        | numerals::same(s, b"data-shards")
-        | numerals::same(s, b"size")
-}
-
-// What a line says after its key.
-pub fn value(s: &[u8]) -> &[u8] {
-    from_word(s, 1)
-}
-
-// What the first line of a key says after it; empty if there is none.
-pub fn value_of<'a>(text: &'a [u8], key: &[u8]) -> &'a [u8] {
-    let p = find(text, key, 0, 0);
-    value(line(text, p.at))
+// s from its second word on.
+fn after_word(s: &[u8]) -> &[u8] {
+    let end = s
+        .iter()
+        .position(|b| numerals::is_blank(*b))
+        .unwrap_or(s.len());
+    numerals::trimmed(&s[end..])
 }
 
 // ---- values
 
 // A whole number: one or more digits. One above 10^18 counts as 2^64 - 1, which every entry refuses.
-pub fn read_whole(s: &[u8]) -> Whole {
+pub fn read_whole(s: &[u8]) -> Option<u64> {
     if !numerals::is_digits(s) {
-        return Whole::Malformed;
+        return None;
     }
-    let mut v: u64 = 0;
-    let mut i = 0;
-    while i < s.len() {
-        if 1_000_000_000_000_000_000 < v {
-            return Whole::Value(u64::MAX);
-        }
-        v = v * 10 + digit(s[i]);
-        i += 1;
-    }
-    Whole::Value(v)
+    Some(s.iter().fold(0, |v, b| with_digit(v, *b)))
 }
 
-fn digit(b: u8) -> u64
-    ensures { result ≤ 9 }
-{
-    (b as u64) % 16 % 10
+fn with_digit(v: u64, b: u8) -> u64 {
+    if MOST < v {
+        return u64::MAX;
+    }
+    v * 10 + u64::from(b) % 16 % 10
 }
 
 // A whole number, or 0 where it is none.
 pub fn number(s: &[u8]) -> u64 {
-    match read_whole(s) {
-        Whole::Malformed => 0,
-        Whole::Value(v) => v,
-    }
-}
-
-pub fn is_number(s: &[u8]) -> bool {
-    match read_whole(s) {
-        Whole::Malformed => false,
-        Whole::Value(_) => true,
-    }
-}
-
-// The whole number of a key.
-pub fn number_of(text: &[u8], key: &[u8]) -> u64 {
-    number(value_of(text, key))
+    read_whole(s).unwrap_or(0)
 }
 
 // A decimal, or 0 where it is none.
 pub fn float(s: &[u8]) -> f64 {
-    match decimals::read_decimal(s) {
-        Decimal::Refused(_) => 0.0,
-        Decimal::Value(x) => x,
-    }
-}
-
-// The number that refuses a decimal, or 0.
-pub fn float_refusal(s: &[u8]) -> u8 {
-    match decimals::read_decimal(s) {
-        Decimal::Refused(no) => no,
-        Decimal::Value(_) => 0,
-    }
+    decimals::read_decimal(s).unwrap_or(0.0)
 }
 
 // A width: exactly N, or at most N.
-pub fn read_width(s: &[u8]) -> Width {
-    if numerals::same(word(s, 0), b"exactly") {
-        return exactly(read_whole(from_word(s, 1)));
-    }
-    if !numerals::same(word(s, 0), b"at") {
-        return Width::Malformed;
-    }
-    if !numerals::same(word(s, 1), b"most") {
-        return Width::Malformed;
-    }
-    at_most(read_whole(from_word(s, 2)))
-}
-
-fn exactly(w: Whole) -> Width {
-    match w {
-        Whole::Malformed => Width::Malformed,
-        Whole::Value(v) => Width::Total(TotalShards::Exactly(v as usize)),
-    }
-}
-
-fn at_most(w: Whole) -> Width {
-    match w {
-        Whole::Malformed => Width::Malformed,
-        Whole::Value(v) => Width::Total(TotalShards::AtMost(v as usize)),
-    }
-}
-
-// The width of a description, or none at all where it is malformed.
-pub fn total_of(text: &[u8]) -> TotalShards {
-    match read_width(value_of(text, b"width")) {
-        Width::Malformed => TotalShards::Exactly(0),
-        Width::Total(w) => w,
-    }
-}
-
-// ---- peers
-
-// What the line of a peer says after its key; empty if there is none.
-pub fn peer(text: &[u8], p: u64) -> &[u8] {
-    let q = find(text, b"peer", p, p);
-    value(line(text, q.at))
-}
-
-// Whether a peer is silent. Word 0 of what its line says is its number; a heard one has a name at each odd place and its value after it.
-pub fn is_silent(s: &[u8]) -> bool {
-    numerals::same(word(s, 1), b"silent")
-}
-
-// The place of a name among the words of a peer, or 0. A silent peer may have in-flight, after `silent`.
-pub fn name_at(s: &[u8], name: &[u8]) -> usize
-    ensures { result ≤ 10 }
-{
-    let mut k = first_name(s);
-    while k < 11 {
-        if numerals::same(word(s, k), name) {
-            return k;
+pub fn read_width(s: &[u8]) -> Option<TotalShards> {
+    let rest = after_word(s);
+    match word(s, 0) {
+        b"exactly" => Some(TotalShards::Exactly(read_whole(rest)? as usize)),
+        b"at" if matches!(word(rest, 0), b"most") => {
+            let most = read_whole(after_word(rest))?;
+            Some(TotalShards::AtMost(most as usize))
         }
-        k += 2;
+        _ => None,
     }
-    0
-}
-
-fn first_name(s: &[u8]) -> usize {
-    if is_silent(s) {
-        return 2;
-    }
-    1
-}
-
-// The place of the first word that is no name where one should stand, or is a name that stands before it; 0 if there is none.
-pub fn stranger(s: &[u8]) -> usize {
-    let mut k = first_name(s);
-    while k < 13 {
-        if is_stranger(s, k) {
-            return k;
-        }
-        k += 2;
-    }
-    0
-}
-
-fn is_stranger(s: &[u8], k: usize) -> bool {
-    let name = word(s, k);
-    if name.len() == 0 {
-        return false;
-    }
-    if !is_name(s, name) {
-        return true;
-    }
-    name_at(s, name) != k
-}
-
-// Whether a word is a name that the peer may have.
-fn is_name(s: &[u8], name: &[u8]) -> bool {
-    if numerals::same(name, b"in-flight") {
-        return true;
-    }
-    if is_silent(s) {
-        return false;
-    }
-    numerals::same(name, b"slope")
-        | numerals::same(name, b"delay")
-        | numerals::same(name, b"jitter")
-        | numerals::same(name, b"downtime")
-}
-
-// The value of a name among the words of a peer; empty if it has none.
-pub fn field<'a>(s: &'a [u8], name: &[u8]) -> &'a [u8] {
-    let k = name_at(s, name);
-    if k == 0 {
-        return &s[..0];
-    }
-    word(s, k + 1)
-}
-
-// The bytes in flight to a peer; 0 if it does not say.
-pub fn in_flight(s: &[u8]) -> u64 {
-    number(field(s, b"in-flight"))
 }

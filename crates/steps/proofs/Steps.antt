@@ -1,38 +1,30 @@
 -- How the code of the steps comes to what the definitions say. The premises are the fields of a need's record. Assumes nothing.
-use mathlib.Core.Path.{◌≡◌, refl, sym, ap, ◌∙◌}
+use mathlib.Core.Path.{◌≡◌, sym, ap, ◌∙◌}
+use mathlib.Core.Bool.{Bool, true, false, not, true≢false}
 use mathlib.Core.List.{List}
-use Prim.Native.Nat.{ℕ, ◌+◌, ◌-◌, ◌*◌, ◌/◌, ◌%◌, ◌^◌, ◌≤◌, ◌<◌}
-use native.Mathlib.Nat.{div-le_self, mul_assoc, mul_comm, mul-le-mul}
+use Rattle.std.specs.Prelude.{Option, None, Some}
+use Prim.Native.Nat.{ℕ, zero, suc, ◌+◌, ◌-◌, ◌*◌, ◌/◌, ◌%◌, ◌≤◌, ◌<◌}
+use native.Mathlib.Nat.{mul_assoc, mul_comm}
 use native.Mathlib.Numerals.{add-one}
 use native.Mathlib.Omega.{arith}
-use lib.Ieee.{Float, nan, binary64, div, of_bits}
+use lib.Ieee.{Float}
 use lib.ListN.{length, get_or}
-use borrow.Author.Tests.{le-ltb}
+use borrow.Author.Tests.{le-ltb, not-true, not-false}
+use Rattle.lists.specs.First.{least_up_to}
 use Rattle.lists.specs.AllLaws.{inside_any}
 use Rattle.lists.specs.BelowLaws.{each_below_at}
 use Rattle.lists.specs.Sort.{sorted_by}
-use Rattle.floats.specs.Floats.{plus_zero, total_le}
-use Rattle.refusals.specs.LimitLaws.{InFlight}
-use Rattle.refusals.specs.Limits.{most_shards}
+use Rattle.floats.specs.Floats.{plus_zero, total_le, precedes}
 use Rattle.times.specs.declared.PerfModel.{PerfModel}
 use Rattle.times.specs.Times.{never, predict_of, model_in, models_in}
 use Rattle.steps.specs.Steps.{peer_at, in_flight, still, peer_time, peer_times, step_time, step_shards, step_quorum, time_of_step, best_step}
-use Rattle.steps.proofs.StepLaws.{shares_positive, steps_all, step_shards_le, peer_below, peer_not_own, best_step_means}
+use Rattle.steps.proofs.StepLaws.{shares_positive, steps_all, peer_below, best_step_means}
 
 -- ---- a model, read: what a table lacks does not matter
-pub model_read : (l : List Float) (p : ℕ) (d : Float) → p * 3 + 2 < length l
-    → record { slope = get_or l (p * 3) d; delay = get_or l (p * 3 + 1) d; jitter = get_or l (p * 3 + 2) d } ≡ model_in l p
-model_read l p d h =
-    let at : (k : ℕ) → k < length l → get_or l k d ≡ get_or l k plus_zero = λ k g. inside_any l k d plus_zero g in
-    rw (at (p * 3) (omega arith), at (p * 3 + 1) (omega arith), at (p * 3 + 2) h)
-
--- ---- the j-th of m peers, p, and its time; L is the length of the lent list
-module _ (own j p L m : ℕ) (small : j < L) (same : L ≡ m) (place : p ≡ peer_at own j) where
-  pub peer_inside : p < m + 1
-  peer_inside = rw (place, add-one) (peer_below own j m (omega arith))
-
-  pub peer_load : (inflight : List ℕ) → InFlight (m + 1) own (in_flight inflight) → in_flight inflight p ≤ 2 ^ 40
-  peer_load inflight h = h p peer_inside (λ (e : p ≡ own). peer_not_own own j (rw place at e))
+-- ---- the j-th of m peers, p, and its time
+module _ (own j p m : ℕ) (small : j < m) (place : p ≡ peer_at own j) where
+  peer_inside : p < m + 1
+  peer_inside = rw (place, add-one) (peer_below own j m small)
 
   pub peer_time_is : (load : ℕ) (inflight : List ℕ) (models : List Float) (model : PerfModel) (x : Float) → m < 16 → model ≡ model_in models p
       → x ≡ predict_of model (in_flight inflight p + load) → x ≡ peer_time load inflight (models_in models) (peer_at own j)
@@ -41,45 +33,54 @@ module _ (own j p L m : ℕ) (small : j < L) (same : L ≡ m) (place : p ≡ pee
       let q : model ≡ get_or (models_in models) p still = g ∙ sym (each_below_at (model_in models) 16 p still (omega (arith, peer_inside))) in
       e ∙ rw (q, place)
 
--- ---- a step's time: m peers' times, lent to be sorted, sorted, and lent to be read
+-- ---- a step's time: of the n - 1 peers' times, in order
 module _ (n own q load m : ℕ) (inflight : List ℕ) (models : List PerfModel) (several : 2 ≤ q) (peers : n - 1 ≡ m) where
-  pub step_is : (times unsorted sorted read : List Float) (r : Float) → times ≡ peer_times m own load inflight models → unsorted ≡ times
-      → sorted ≡ sorted_by total_le unsorted → read ≡ sorted → r ≡ get_or read (q - 2) never → r ≡ step_time n own q load inflight models
+  pub step_is : (times sorted : List Float) (r : Float) → times ≡ peer_times m own load inflight models → sorted ≡ sorted_by total_le times
+      → r ≡ get_or sorted (q - 2) never → r ≡ step_time n own q load inflight models
   unfolding step_time
-  step_is times unsorted sorted read r t u s w e = rw (le-ltb q 2 several, peers, e, w, s, u, t)
+  step_is times sorted r t s e = rw (le-ltb q 2 several, peers, e, s, t)
 
--- ---- the load of a step: one share more from step to step
-module _ (d majority size : ℕ) where
-  abbrev pub load_of : ℕ
-  load_of = (size / d + 1) * (d / majority)
+-- ---- a step's time, of i + 1 shares
+module _ (n f own d majority size : ℕ) (inflight : List ℕ) (models : List PerfModel) (i : ℕ) where
+  shares : (size / d + 1) * (d / majority) * (i + 1) ≡ (size / d + 1) * step_shards d majority i
+  shares = mul_assoc (size / d + 1) (d / majority) (i + 1) ∙ ap (λ (k : ℕ). (size / d + 1) * k) (mul_comm (d / majority) (i + 1))
 
-  pub shared_load : d ≤ most_shards → size ≤ 2 ^ 30 → load_of ≤ 2 ^ 40
-  shared_load e g =
-      let a : size / d + 1 ≤ 2 ^ 30 + 1 = omega (arith, div-le_self size d) in
-      let b : d / majority ≤ 255 = omega (arith, div-le_self d majority) in
-      omega (arith, mul-le-mul a b)
+  pub timed : (peers share : ℕ) (t : Float) → peers ≡ n → share ≡ d / majority
+      → t ≡ step_time peers own (step_quorum majority f i) ((size / d + 1) * share * (i + 1)) inflight models
+      → t ≡ time_of_step n f own d majority size inflight models i
+  unfolding time_of_step
+  timed peers share t p q e = e ∙ rw (p, q, shares)
 
-  module _ (i : ℕ) where
-    -- of i + 1 shares
-    shares : load_of * (i + 1) ≡ (size / d + 1) * step_shards d majority i
-    shares = mul_assoc (size / d + 1) (d / majority) (i + 1) ∙ ap (λ (k : ℕ). (size / d + 1) * k) (mul_comm (d / majority) (i + 1))
+-- ---- the search for the first number with the least value: what it has found of the numbers below i, r being what `precedes` returned at i
+module _ (f : ℕ → Float) where
+  abbrev pub Found : ℕ → ℕ → Option Float → Type 0
+  Found zero best least = (best ≡ 0) × (least ≡ None)
+  Found (suc k) best least = (best ≡ (least_up_to total_le f k).0) × (least ≡ Some (least_up_to total_le f k).1)
 
-    pub timed : (n f own : ℕ) (inflight : List ℕ) (models : List PerfModel) (t : Float)
-        → t ≡ step_time n own (step_quorum majority f i) (load_of * (i + 1)) inflight models
-        → t ≡ time_of_step n f own d majority size inflight models i
-    unfolding time_of_step
-    timed n f own inflight models t e = e ∙ ap (λ (k : ℕ). step_time n own (step_quorum majority f i) k inflight models) shares
+  pub found_all : (n i best : ℕ) (least : Option Float) → 0 < n → i ≤ n → n ≤ i → Found i best least → best ≡ (least_up_to total_le f (n - 1)).0
+  found_all n zero best least p h g e = absurd (omega arith)
+  found_all n (suc k) best least p h g e = let q : n - 1 ≡ k = omega arith in rw q e.0
 
-    pub shared_load_le : i < majority → d ≤ most_shards → size ≤ 2 ^ 30 → load_of * (i + 1) ≤ 2 ^ 40
-    shared_load_le h e g =
-        let a : size / d + 1 ≤ 2 ^ 30 + 1 = omega (arith, div-le_self size d) in
-        let b : step_shards d majority i ≤ 255 = omega (arith, step_shards_le d majority i h) in
-        omega (arith, mul-le-mul a b, shares)
+  module _ (i best : ℕ) (least : Option Float) (found : Found i best least) (t : Float) (r : Bool) (value : t ≡ f i) (test : r ≡ precedes t least) where
+    -- what the test says where a number has been found
+    tested : (low : Float) → least ≡ Some low → not (total_le low t) ≡ r
+    tested low e = ap (precedes t) (sym e) ∙ sym test
 
--- ---- above every time
-pub no_number : div binary64 (of_bits binary64 0) (of_bits binary64 0) ≡ nan
-unfolding div of_bits
-no_number = refl
+    pub found_kept : (b : ℕ) (l : Option Float) → r ≡ false → b ≡ best → l ≡ least → Found (i + 1) b l
+    unfolding least_up_to
+    found_kept b l e p q = go i found value
+      where
+        go : (i : ℕ) → Found i best least → t ≡ f i → Found (i + 1) b l
+        go zero s v = absurd (true≢false (ap (precedes t) (sym s.1) ∙ sym test ∙ e))
+        go (suc k) s v = rw (add-one (suc k), ← v, not-false _ (tested _ s.1 ∙ e)) (p ∙ s.0, q ∙ s.1)
+
+    pub found_moved : (b : ℕ) (l : Option Float) → r ≡ true → b ≡ i → l ≡ Some t → Found (i + 1) b l
+    unfolding least_up_to
+    found_moved b l e p q = go i found value p
+      where
+        go : (i : ℕ) → Found i best least → t ≡ f i → b ≡ i → Found (i + 1) b l
+        go zero s v p = (p, q ∙ ap Some v)
+        go (suc k) s v p = rw (add-one (suc k), ← v, not-true _ (tested _ s.1 ∙ e)) (p, q)
 
 -- ---- the step chosen is below the majority
 module _ (n f own d majority size : ℕ) (inflight : List ℕ) (models : List PerfModel) (some : 0 < d) (multiple : d % majority ≡ 0) (i : ℕ)
@@ -89,6 +90,3 @@ module _ (n f own d majority size : ℕ) (inflight : List ℕ) (models : List Pe
       let h = shares_positive d majority some multiple in
       let b = (best_step_means n f own d majority size inflight models h i).0 (sym chosen) in
       omega (arith, b.inside, steps_all d majority some multiple)
-
-  pub best_le : step_shards d majority i ≤ d
-  best_le = step_shards_le d majority i best_small

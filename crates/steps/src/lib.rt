@@ -2,106 +2,118 @@
 // predict.
 #![tactic(auto)]
 
-ghost use Rattle.std.specs.Prelude.{◌≡◌, ◌+◌, ◌*◌, ◌%◌, ◌≤◌, ◌<◌, ◌^◌, length, get_or};
+ghost use Rattle.std.specs.Prelude.{◌≡◌, ◌+◌, ◌*◌, ◌/◌, ◌%◌, ◌≤◌, ◌<◌, ◌^◌, length};
 ghost use Rattle.refusals.specs.LimitLaws.{InFlight};
 ghost use Rattle.refusals.specs.Limits.{most_shards};
-ghost use Rattle.times.specs.Times.{never, model_in, models_in};
+ghost use Rattle.times.specs.Times.{model_in, models_in};
 ghost use Rattle.steps.specs.Steps.{in_flight, peer_at, peer_times, step_time, best_step};
 
 use bitmap::ReplicaId;
 use times::PerfModel;
 
-// The first step with the least time in total order. A part: the numbers have been tested, and each replica has a word and a model.
-pub fn best_step(
-    n: usize,
-    f: usize,
-    own: ReplicaId,
-    d: usize,
-    majority: usize,
-    size: u64,
-    inflight: &[u64],
-    models: &[f64],
-) -> usize
-    requires n_nonzero { (0 < n) × (n ≤ 16) × (f < n) × (d ≤ most_shards) × (0 < d) × (0 < majority) × (majority ≤ n) × (d % majority ≡ 0) × (size ≤ 2 ^ 30) }
-    requires inflight_len { (length inflight.now ≡ n) × (length models.now ≡ n * 3) × InFlight n own.0 (in_flight inflight.now) }
-    ensures { result ≡ best_step n f own.0 d majority size inflight.now (models_in models.now) }
-{
-    // A share is d / majority shards, and d is a multiple of the majority: there are as many steps.
-    let load = (size / (d as u64) + 1) * ((d / majority) as u64);
-    let mut best = 0;
-    // A NaN is above every time.
-    let mut least = 0.0 / 0.0;
-    let mut i = 0;
-    while i < majority {
-        // The quorum waited for is one smaller from step to step, and each replica has one share more.
-        let time = step_time(
-            n,
-            own,
-            majority + f - i,
-            load * ((i + 1) as u64),
-            inflight,
-            models,
-        );
-        if !floats::total_le(least, time) {
-            best = i;
-            least = time;
+// A scheme whose numbers have been tested: how many replicas there are and how many of them may fail, the data shards, and the majority.
+#[derive(Clone, Copy)]
+pub struct Scheme {
+    pub population: usize,
+    pub tolerance: usize,
+    pub data_shards: usize,
+    pub majority: usize,
+    pub ghost some_replicas: { 0 < population },
+    pub ghost few_replicas: { population ≤ 16 },
+    pub ghost fewer_fail: { tolerance < population },
+    pub ghost some_shards: { 0 < data_shards },
+    pub ghost few_shards: { data_shards ≤ most_shards },
+    pub ghost some_majority: { 0 < majority },
+    pub ghost majority_inside: { majority ≤ population },
+    pub ghost whole_shares: { data_shards % majority ≡ 0 },
+}
+
+impl Scheme {
+    // The shards of a share: in each step a replica has one share more than in the step before.
+    #[inline]
+    pub fn share(self) -> usize
+        ensures { result ≡ self.data_shards / self.majority }
+    {
+        self.data_shards / self.majority
+    }
+}
+
+// What is known of the replicas, of which one is our own: the bytes in flight to each, and three numbers of each's model, slope in ms a
+// MiB, delay and jitter in ms.
+// Kept as it is: the C interface lends the bytes in flight and the models as two parallel tables.
+#[derive(Clone, Copy)]
+pub struct Peers<'a> {
+    pub own: ReplicaId,
+    pub inflight: &'a [u64],
+    pub models: &'a [f64],
+    pub ghost some_replicas: { 0 < length inflight.now },
+    pub ghost few_replicas: { length inflight.now ≤ 16 },
+    pub ghost a_model_each: { length models.now ≡ length inflight.now * 3 },
+    pub ghost in_flight_fits: { InFlight (length inflight.now) own.0 (in_flight inflight.now) },
+}
+
+impl Peers<'_> {
+    // When the fastest quorum - 1 peers have the load; at once if there are none to hear from.
+    fn step_time(&self, quorum: usize, load: u64) -> f64
+        requires { load ≤ 2 ^ 40 }
+        ensures { result ≡ step_time (length self.now.inflight.now) self.now.own.0 quorum load self.now.inflight.now (models_in self.now.models.now) }
+    {
+        if quorum < 2 {
+            return 0.0;
         }
-        i += 1;
+        let mut table = [0.0; 16];
+        let times = &mut table[..self.inflight.len() - 1];
+        self.fill_times(load, times);
+        floats::sort(times);
+        times.get(quorum - 2).copied().unwrap_or(f64::INFINITY)
+    }
+
+    // The times of the peers, in rising order of their numbers. A part: there is a place for each.
+    fn fill_times(&self, load: u64, times: &mut [f64])
+        requires small_load { load ≤ 2 ^ 40 }
+        requires a_place_each { length times.old + 1 ≡ length self.now.inflight.now }
+        ensures { times.new ≡ peer_times (length times.old) self.now.own.0 load self.now.inflight.now (models_in self.now.models.now) }
+    {
+        for (j, time) in times.iter_mut().enumerate() {
+            let p = peer_at(self.own, j).0;
+            *time = times::predict(self.model(p), self.inflight[p] + load);
+        }
+    }
+
+    // The model of p. A part: p is one of the replicas.
+    fn model(&self, p: usize) -> PerfModel
+        requires { p < length self.now.inflight.now }
+        ensures { result ≡ model_in self.now.models.now p }
+    {
+        PerfModel {
+            slope: self.models[p * 3],
+            delay: self.models[p * 3 + 1],
+            jitter: self.models[p * 3 + 2],
+        }
+    }
+}
+
+// The first step with the least time in total order. A part: the size has been tested, and the peers are those of the scheme.
+pub fn best_step(scheme: Scheme, peers: &Peers, size: u64) -> usize
+    requires a_word_each { length peers.now.inflight.now ≡ scheme.population }
+    requires small_size { size ≤ 2 ^ 30 }
+    ensures least { result ≡ best_step scheme.population scheme.tolerance peers.now.own.0 scheme.data_shards scheme.majority size peers.now.inflight.now (models_in peers.now.models.now) }
+    ensures inside { result < scheme.majority }
+{
+    // A share is a whole number of shards: there are as many steps as replicas in the majority.
+    let load = (size / (scheme.data_shards as u64) + 1) * (scheme.share() as u64);
+    let mut best = 0;
+    let mut least = None;
+    for i in 0..scheme.majority {
+        // The quorum waited for is one smaller from step to step, and each replica has one share more.
+        let quorum = scheme.majority + scheme.tolerance - i;
+        let time = peers.step_time(quorum, load * (i as u64 + 1));
+        if floats::precedes(time, least) {
+            best = i;
+            least = Some(time);
+        }
     }
     best
-}
-
-// When the fastest q - 1 peers have the load; at once if there are none to hear from.
-fn step_time(n: usize, own: ReplicaId, q: usize, load: u64, inflight: &[u64], models: &[f64]) -> f64
-    requires n_nonzero { (0 < n) × (n ≤ 16) × (load ≤ 2 ^ 40) }
-    requires inflight_len { (length inflight.now ≡ n) × (length models.now ≡ n * 3) × InFlight n own.0 (in_flight inflight.now) }
-    ensures { result ≡ step_time n own.0 q load inflight.now (models_in models.now) }
-{
-    if q < 2 {
-        return 0.0;
-    }
-    let mut times = [0.0f64; 16];
-    let m = n - 1;
-    peer_times(own, load, inflight, models, &mut times[..m]);
-    floats::sort(&mut times[..m]);
-    at_or_never(&times[..m], q - 2)
-}
-
-// The time at a place, or never.
-fn at_or_never(times: &[f64], k: usize) -> f64
-    ensures { result ≡ get_or times.now k never }
-{
-    if k < times.len() {
-        return times[k];
-    }
-    1.0 / 0.0
-}
-
-// The times of the peers, in rising order of their numbers. A part: there are at most 15 of them, and one replica more in each table.
-fn peer_times(own: ReplicaId, load: u64, inflight: &[u64], models: &[f64], times: &mut [f64])
-    requires times_len_bound { (length times.old < 16) × (load ≤ 2 ^ 40) × (length inflight.now ≡ length times.old + 1) × (length models.now ≡ (length times.old + 1) * 3) }
-    requires in_flight { InFlight (length times.old + 1) own.0 (in_flight inflight.now) }
-    ensures { times.new ≡ peer_times (length times.old) own.0 load inflight.now (models_in models.now) }
-{
-    let mut j = 0;
-    while j < times.len() {
-        let p = peer_at(own, j).0;
-        let model = model_in(models, p);
-        times[j] = times::predict(model, inflight[p] + load);
-        j += 1;
-    }
-}
-
-// The model of p: three numbers of the table. A part: it has them.
-fn model_in(models: &[f64], p: usize) -> PerfModel
-    requires { (p < 16) × (p * 3 + 2 < length models.now) }
-    ensures { result ≡ model_in models.now p }
-{
-    PerfModel {
-        slope: models[p * 3],
-        delay: models[p * 3 + 1],
-        jitter: models[p * 3 + 2],
-    }
 }
 
 // The j-th of the peers.
@@ -110,7 +122,8 @@ fn peer_at(own: ReplicaId, j: usize) -> ReplicaId
     ensures { result.0 ≡ peer_at own.0 j }
 {
     if j < own.0 {
-        return ReplicaId(j);
+        ReplicaId(j)
+    } else {
+        ReplicaId(j + 1)
     }
-    ReplicaId(j + 1)
 }

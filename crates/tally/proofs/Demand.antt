@@ -13,24 +13,25 @@
 -- Assumes nothing.
 use Rattle.std.specs.Prelude.{◌≡◌, refl, ◌↔◌, true, List}
 use Prim.Native.Nat.{ℕ, zero, suc}
-use Rattle.refusals.specs.Outcome.{written}
+use Rattle.refusals.specs.Outcome.{left, written}
+use Rattle.tally.specs.declared.Proposal.{Proposal}
 use Rattle.tally.specs.declared.Tally.{Tally}
-use Rattle.tally.specs.Tally.{Reply, open_refusal, fresh, opening_of, reply_refusal}
+use Rattle.tally.specs.Tally.{Reply, open_refusal, fresh, nothing, opening_of, reply_refusal}
 use Rattle.tally.specs.Replies.{taken, unrefused, after_all, replies, last_said, Stays, Commits, Lent, Included}
 use Rattle.tally.proofs.ReplyLaws.{all_stay, Sound, sound_fresh, all_decided, all_unrefused, commits_grow, fresh_exact, both_ways}
 
-module _ (n quorum d w ballot high low : ℕ) where
-  -- the tally that `open` gives
+module _ (n quorum d w : ℕ) (proposal : Proposal) where
+  -- the tally that `open` gives; where it refuses, a tally of nothing
   abbrev opened : Tally
-  opened = (opening_of n quorum d w ballot high low).tally
+  opened = left (opening_of n quorum d w proposal) nothing
 
   opened_sound : Sound opened
   unfolding opening_of
   opened_sound = go (open_refusal n quorum d w)
     where
-      go : (k : ℕ) → Sound (written k (fresh n quorum d w ballot high low) (fresh 0 0 0 0 0 0 0))
-      go zero = sound_fresh n quorum d w ballot high low
-      go (suc k) = sound_fresh 0 0 0 0 0 0 0
+      go : (k : ℕ) → Sound (written k (fresh n quorum d w proposal) nothing)
+      go zero = sound_fresh n quorum d w proposal
+      go (suc k) = sound_fresh 0 0 0 0 _
 
   -- the reply and the fault list lent with it are refused, or not, as the opened tally would refuse them: what was heard since decides nothing
   pub decided : (rs : List Reply) (r : Reply) → reply_refusal (after_all opened rs) r ≡ reply_refusal opened r
@@ -48,7 +49,7 @@ module _ (n quorum d w ballot high low : ℕ) where
     -- the last unrefused reply was answered committed exactly when the unrefused ones commit. Where there is none, nobody was heard: neither side holds
     pub exactly : (rs : List Reply) → Lent faults (unrefused opened rs) → (last_said (taken opened rs) ≡ true) ↔ Commits quorum d faults (unrefused opened rs)
     unfolding opening_of
-    exactly = rw no (fresh_exact faults n quorum d w ballot high low no)
+    exactly = rw no (fresh_exact faults n quorum d w proposal no)
 
     -- order and repetition of the unrefused replies decide nothing
     pub agree : (rs rs' : List Reply) → Lent faults (unrefused opened rs) → Lent faults (unrefused opened rs')

@@ -8,6 +8,7 @@ use Rattle.refusals.specs.FirstLaws.{none_holds}
 use Rattle.refusals.specs.Limits.{most_shards, is_row}
 use Rattle.refusals.specs.LimitLaws.{population_means, shards_means, quorum_means, fault_list_means}
 use Rattle.coverage.proofs.RefusalLaws.{FaultList}
+use Rattle.tally.specs.declared.Proposal.{Proposal}
 use Rattle.tally.specs.declared.Tally.{Tally}
 use Rattle.tally.specs.Tally.{Reply, open_cases, open_refusal, reply_cases, reply_refusal, is_same_value}
 
@@ -34,16 +35,22 @@ module _ (n quorum d w : ℕ) where
 -- ---- `reply` and `accept_reply`
 
 -- both halves of the value id are compared
-pub same_value_means : (t : Tally) (ballot high low : ℕ)
-    → (is_same_value t ballot high low ≡ true) ↔ ((t.ballot ≡ ballot) × (t.value_high ≡ high) × (t.value_low ≡ low))
+pub same_value_means : (t : Tally) (p : Proposal) → (is_same_value t p ≡ true) ↔ (t.proposal ≡ p)
 unfolding is_same_value
-same_value_means t ballot high low = (
+same_value_means t p = (
   λ e.
-      let p = (and-eq-true_iff (eqb t.ballot ballot) (eqb t.value_high high && eqb t.value_low low)).0 e in
-      let q = (and-eq-true_iff (eqb t.value_high high) (eqb t.value_low low)).0 p.1 in
-      (eqb-true t.ballot ballot p.0, eqb-true t.value_high high q.0, eqb-true t.value_low low q.1),
+      let a = (and-eq-true_iff (eqb t.proposal.ballot p.ballot) (eqb t.proposal.value_high p.value_high && eqb t.proposal.value_low p.value_low)).0 e in
+      let b = (and-eq-true_iff (eqb t.proposal.value_high p.value_high) (eqb t.proposal.value_low p.value_low)).0 a.1 in
+      let ballot = eqb-true t.proposal.ballot p.ballot a.0 in
+      let high = eqb-true t.proposal.value_high p.value_high b.0 in
+      let low = eqb-true t.proposal.value_low p.value_low b.1 in
+      λ i. record { ballot = ballot i; value_high = high i; value_low = low i },
   λ h.
-      simp (eq-eqb t.ballot ballot h.0, eq-eqb t.value_high high h.1, eq-eqb t.value_low low h.2),
+      simp (
+        eq-eqb t.proposal.ballot p.ballot (λ i. (h i).ballot),
+        eq-eqb t.proposal.value_high p.value_high (λ i. (h i).value_high),
+        eq-eqb t.proposal.value_low p.value_low (λ i. (h i).value_low),
+      ),
 )
 
 module _ (t : Tally) (r : Reply) where
@@ -54,16 +61,13 @@ module _ (t : Tally) (r : Reply) where
     pub each_row : Each (is_row t.width) 0 (rows_in (take (t.population * 4) t.rows))
     pub row : r.row < 2 ^ t.width
     pub list : FaultList t.population r.faults
-    pub ballot : t.ballot ≡ r.ballot
-    pub high : t.value_high ≡ r.high
-    pub low : t.value_low ≡ r.low
+    pub proposal : t.proposal ≡ r.proposal
 
   pub countable : (reply_refusal t r ≡ 0) ↔ Countable
   unfolding reply_refusal
   countable = (
     λ e.
         let h = (none_holds (reply_cases t r) refl).0 e in
-        let v = (same_value_means t r.ballot r.high r.low).0 (not-false _ h.1.1.1.1.1.1.1.1.0) in
         record {
           opening = record {
             population = (population_means t.population).0 (not-false _ h.0);
@@ -75,9 +79,7 @@ module _ (t : Tally) (r : Reply) where
           each_row = (all_means (is_row t.width) 0 (rows_in (take (t.population * 4) t.rows))).0 (not-false _ h.1.1.1.1.1.0);
           row = ltb-true r.row (2 ^ t.width) (not-false _ h.1.1.1.1.1.1.0);
           list = (fault_list_means t.population r.faults).0 (not-false _ h.1.1.1.1.1.1.1.0);
-          ballot = v.0;
-          high = v.1;
-          low = v.2;
+          proposal = (same_value_means t r.proposal).0 (not-false _ h.1.1.1.1.1.1.1.1.0);
         },
     λ s.
         simp (
@@ -89,6 +91,6 @@ module _ (t : Tally) (r : Reply) where
           (all_means (is_row t.width) 0 (rows_in (take (t.population * 4) t.rows))).1 s.each_row,
           lt-ltb r.row (2 ^ t.width) s.row,
           (fault_list_means t.population r.faults).1 s.list,
-          (same_value_means t r.ballot r.high r.low).1 (s.ballot, s.high, s.low),
+          (same_value_means t r.proposal).1 s.proposal,
         ),
   )

@@ -20,12 +20,15 @@ use Rattle.rows.specs.Row.{row_in, with_row}
 use Rattle.rows.proofs.TableLaws.{no_row, first_row, first_rows_below, row_below, with_row_same, with_row_other, with_row_length}
 use Rattle.bitmap.specs.MaskLaws.{bit_none, or_means, with_means}
 use Rattle.bitmap.specs.Members.{many_map}
-use Rattle.refusals.specs.Outcome.{outcome, written}
+use Rattle.refusals.specs.Outcome.{refused, outcome, written}
 use Rattle.coverage.specs.Coverage.{RowsBelow, commits}
 use Rattle.coverage.proofs.CoverageLaws.{Held, commits_means}
+use Rattle.tally.specs.declared.Proposal.{Proposal}
 use Rattle.tally.specs.declared.Tally.{Tally}
-use Rattle.tally.specs.Tally.{Reply, Said, waiting, committed, already_committed, open_refusal, fresh, is_same_value, reply_refusal, row_with}
-use Rattle.tally.specs.Tally.{noted, is_committing, settled, is_taken, said_of, reply_of, tally_after}
+use Rattle.tally.specs.declared.Status.{Status}
+use Rattle.tally.specs.declared.Status.TheVariants.{Waiting, Committed, AlreadyCommitted}
+use Rattle.tally.specs.Tally.{Reply, open_refusal, fresh, is_same_value, reply_refusal, row_with}
+use Rattle.tally.specs.Tally.{noted, is_committing, settled, said_of, reply_of, tally_after}
 use Rattle.tally.proofs.RefusalLaws.{openable, countable}
 use Rattle.tally.specs.Replies.{says_committed, Taken, taking, taken, unrefused, after_all, replies, last_or, last_said, Stays, Heard, Named, Left, Commits, Lent, Included}
 
@@ -35,7 +38,7 @@ use Rattle.tally.specs.Replies.{says_committed, Taken, taking, taken, unrefused,
 abbrev pub counted : Tally → Reply → Tally
 counted t r = settled (noted t r.source r.row) r.faults
 
-says : (b : Bool) → says_committed (cond b committed waiting) ≡ b
+says : (b : Bool) → says_committed (cond b Committed Waiting) ≡ b
 says true = refl
 says false = refl
 
@@ -49,18 +52,18 @@ unfolding reply_of tally_after
 by_reply t r P refuses already counts = go (reply_refusal t r) refl t.committed refl
   where
     go : (k : ℕ) → reply_refusal t r ≡ k → (b : Bool) → t.committed ≡ b
-        → P (taking r (outcome k (cond b already_committed (cond (counted t r).committed committed waiting)))) (written k (cond b t (counted t r)) t)
+        → P (taking r (outcome k (cond b AlreadyCommitted (cond (counted t r).committed Committed Waiting)))) (written k (cond b t (counted t r)) t)
     go zero e true c = already e c
     go zero e false c = subst (λ (b : Bool). P (λ us. (r, b) ∷ us) (counted t r)) (sym (says (counted t r).committed)) (counts e c)
     go (suc k) e b c = refuses (λ z. omega arith)
 
 -- a refused reply leaves the tally as it was
-pub refused_leaves : (t : Tally) (r : Reply) → is_taken (reply_of t r) ≡ false → tally_after t r ≡ t
+pub refused_leaves : (t : Tally) (r : Reply) (number : ℕ) → refused number ≡ reply_of t r → t ≡ tally_after t r
 unfolding reply_of tally_after
-refused_leaves t r = go (reply_refusal t r) (said_of t r) (cond t.committed t (counted t r))
+refused_leaves t r number = go (reply_refusal t r) (said_of t r) (cond t.committed t (counted t r))
   where
-    go : (k : ℕ) (said : Said) (u : Tally) → is_taken (outcome k said) ≡ false → written k u t ≡ t
-    go zero said u e = absurd (true≢false e)
+    go : (k : ℕ) (said : Status) (u : Tally) → refused number ≡ outcome k said → t ≡ written k u t
+    go zero said u e = cc
     go (suc k) said u e = refl
 
 -- ---- the rows after a reply, of a source that has a row in the tally
@@ -119,9 +122,9 @@ pub record Sound (t : Tally) : Type 0 where
   pub mask : t.heard < 2 ^ t.population
   pub each_row : (s : ℕ) → row_in t.rows s < 2 ^ t.width
 
-pub sound_fresh : (n quorum d w ballot high low : ℕ) → Sound (fresh n quorum d w ballot high low)
+pub sound_fresh : (n quorum d w : ℕ) (proposal : Proposal) → Sound (fresh n quorum d w proposal)
 unfolding fresh
-sound_fresh n quorum d w ballot high low = record { long = refl; mask = pow_pos n; each_row = λ s. rw (no_row 64 s) (pow_pos w) }
+sound_fresh n quorum d w proposal = record { long = refl; mask = pow_pos n; each_row = λ s. rw (no_row 64 s) (pow_pos w) }
 
 -- what holds of each row, and of another one, holds after that is written too
 with_each : (F : ℕ → Type 0) (m : ℕ) (table : List ℕ) (i : ℕ) → i * 4 + 4 ≤ length table → m < 2 ^ 256 → F m → ((s : ℕ) → F (row_in table s)) → (s : ℕ) → F (row_in (with_row table i m) s)
@@ -377,9 +380,9 @@ module _ (faults : List ℕ) where
     pub exact : (t.committed ≡ true) ↔ Commits t.quorum t.data_shards faults us
     pub sums : t.committed ≡ false → Sums t.population t.heard t.rows us
 
-  pub right_fresh : (n quorum d w ballot high low : ℕ) → open_refusal n quorum d w ≡ 0 → Right (fresh n quorum d w ballot high low) []
+  pub right_fresh : (n quorum d w : ℕ) (proposal : Proposal) → open_refusal n quorum d w ≡ 0 → Right (fresh n quorum d w proposal) []
   unfolding fresh
-  right_fresh n quorum d w ballot high low e =
+  right_fresh n quorum d w proposal e =
       let q = ((openable n quorum d w).0 e).enough.0 in
       record { exact = (λ c. absurd (true≢false (sym c)), λ c. absurd (none_commit quorum d faults q c)); sums = λ c. sums_none n }
 
@@ -409,15 +412,15 @@ module _ (faults : List ℕ) where
       (λ e c lent. rw append_assoc at (all_exact rs (counted t r) (us ++ r ∷ []) (right_counted right r e c lent.0) lent.1))
 
   -- from a tally that has heard nobody
-  pub fresh_exact : (n quorum d w ballot high low : ℕ) → open_refusal n quorum d w ≡ 0 → (rs : List Reply)
-      → Lent faults (unrefused (fresh n quorum d w ballot high low) rs)
-      → (last_said (taken (fresh n quorum d w ballot high low) rs) ≡ true) ↔ Commits quorum d faults (unrefused (fresh n quorum d w ballot high low) rs)
+  pub fresh_exact : (n quorum d w : ℕ) (proposal : Proposal) → open_refusal n quorum d w ≡ 0 → (rs : List Reply)
+      → Lent faults (unrefused (fresh n quorum d w proposal) rs)
+      → (last_said (taken (fresh n quorum d w proposal) rs) ≡ true) ↔ Commits quorum d faults (unrefused (fresh n quorum d w proposal) rs)
   unfolding fresh
-  fresh_exact n quorum d w ballot high low e rs =
-      let t = fresh n quorum d w ballot high low in
+  fresh_exact n quorum d w proposal e rs =
+      let t = fresh n quorum d w proposal in
       subst (λ (us : List Reply). Lent faults us → (last_said (taken t rs) ≡ true) ↔ Commits quorum d faults us)
-      (all_unrefused t rs t (sound_fresh n quorum d w ballot high low) (λ x. refl))
-      (λ lent. rw (last_is_committed rs t) (all_exact rs t [] (right_fresh n quorum d w ballot high low e) lent))
+      (all_unrefused t rs t (sound_fresh n quorum d w proposal) (λ x. refl))
+      (λ lent. rw (last_is_committed rs t) (all_exact rs t [] (right_fresh n quorum d w proposal e) lent))
 
 -- two answers, each yes where the other is
 pub both_ways : {a b : Bool} → (a ≡ true → b ≡ true) → (b ≡ true → a ≡ true) → a ≡ b

@@ -7,24 +7,26 @@ use Rattle.bitmap.specs.Mask.{bit}
 use Rattle.bitmap.specs.Members.{Many}
 use Rattle.refusals.specs.Outcome.{Outcome, refused, accepted}
 use Rattle.tally.specs.declared.Tally.{Tally}
-use Rattle.tally.specs.Tally.{Reply, Said, waiting, committed, already_committed, reply_refusal, reply_of, tally_after}
+use Rattle.tally.specs.declared.Status.{Status}
+use Rattle.tally.specs.declared.Status.TheVariants.{Waiting, Committed, AlreadyCommitted}
+use Rattle.tally.specs.Tally.{Reply, reply_refusal, reply_of, tally_after}
 
 -- ---- handed in turn
 
 -- "already committed" counts as saying committed
-abbrev pub says_committed : Said → Bool
-says_committed waiting = false
-says_committed committed = true
-says_committed already_committed = true
+abbrev pub says_committed : Status → Bool
+says_committed Waiting = false
+says_committed Committed = true
+says_committed AlreadyCommitted = true
 
 -- an unrefused reply, and whether it was answered committed
 abbrev pub Taken : Type 0
 Taken = Reply × Bool
 
 -- a refused reply gets its number alone, which says nothing
-abbrev pub taking : Reply → Outcome Said → List Taken → List Taken
+abbrev pub taking : Reply → Outcome Status → List Taken → List Taken
 taking r (refused k) us = us
-taking r (accepted said) us = (r, says_committed said) ∷ us
+taking r (accepted status) us = (r, says_committed status) ∷ us
 
 -- the unrefused replies of a list in turn, with what they were answered. Each reply is handed the tally as the one before it left it
 abbrev pub taken : Tally → List Reply → List Taken

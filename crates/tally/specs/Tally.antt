@@ -1,17 +1,18 @@
 -- The tally of accept replies: its opening, what refuses a reply, and what a reply does. Assumes nothing.
-use Rattle.std.specs.Prelude.{Bool, true, false, cond, ◌&&◌, List, [], ◌∷◌, ℕ, ◌*◌, eqb, take, replicate}
+use Rattle.std.specs.Prelude.{Bool, false, cond, ◌&&◌, List, [], ◌∷◌, ℕ, ◌*◌, eqb, take, replicate}
 use Rattle.std.specs.Int.Bits.{bit_or}
 use Rattle.bitmap.specs.Mask.{has_bit, with_bit}
 use Rattle.rows.specs.Row.{row_in, with_row}
 use Rattle.refusals.specs.Numbers.{POPULATION, REPLICA, SHARDS, QUORUM, MASK, TABLE, OTHER_VALUE}
 use Rattle.refusals.specs.First.{Case, unless, first_of}
-use Rattle.refusals.specs.Outcome.{Outcome, refused, accepted, outcome, written}
+use Rattle.refusals.specs.Outcome.{Outcome, outcome, written}
 use Rattle.refusals.specs.Limits.{is_population, is_replica, is_shards, is_quorum, is_mask, is_row, are_rows, is_fault_list}
 use Rattle.coverage.specs.Coverage.{commits}
+use Rattle.tally.specs.declared.Proposal.{Proposal}
 use Rattle.tally.specs.declared.Tally.{Tally}
-use Rattle.tally.specs.declared.Opening.{Opening}
-use Rattle.tally.specs.declared.Answer.{Answer}
-use Rattle.tally.specs.declared.Answer.TheVariants as Answering
+use Rattle.tally.specs.declared.Replied.{Replied}
+use Rattle.tally.specs.declared.Status.{Status}
+use Rattle.tally.specs.declared.Status.TheVariants.{Waiting, Committed, AlreadyCommitted}
 
 -- ---- the opening
 
@@ -22,44 +23,41 @@ unfoldable pub open_refusal : ℕ → ℕ → ℕ → ℕ → ℕ
 open_refusal n quorum d w = first_of (open_cases n quorum d w)
 
 -- a tally that has heard nobody
-unfoldable pub fresh : ℕ → ℕ → ℕ → ℕ → ℕ → ℕ → ℕ → Tally
-fresh n quorum d w ballot high low = record {
+unfoldable pub fresh : ℕ → ℕ → ℕ → ℕ → Proposal → Tally
+fresh n quorum d w proposal = record {
   population = n;
   quorum = quorum;
   data_shards = d;
   width = w;
-  ballot = ballot;
-  value_high = high;
-  value_low = low;
+  proposal = proposal;
   heard = 0;
   committed = false;
   rows = replicate 64 0;
 }
 
--- the number that refuses, or 0 and the tally; beside a number stands a tally of nothing
-unfoldable pub opening_of : ℕ → ℕ → ℕ → ℕ → ℕ → ℕ → ℕ → Opening
-opening_of n quorum d w ballot high low = record {
-  refusal = open_refusal n quorum d w;
-  tally = written (open_refusal n quorum d w) (fresh n quorum d w ballot high low) (fresh 0 0 0 0 0 0 0);
-}
+-- a tally of nothing
+abbrev pub nothing : Tally
+nothing = fresh 0 0 0 0 (record { ballot = 0; value_high = 0; value_low = 0 })
+
+-- the number that refuses, or the tally
+unfoldable pub opening_of : ℕ → ℕ → ℕ → ℕ → Proposal → Outcome Tally
+opening_of n quorum d w proposal = outcome (open_refusal n quorum d w) (fresh n quorum d w proposal)
 
 -- ---- what refuses a reply
 
 -- an accept reply, and the fault list lent with it
 pub record Reply : Type 0 where
   pub source : ℕ
-  pub ballot : ℕ
-  pub high : ℕ
-  pub low : ℕ
+  pub proposal : Proposal
   pub row : ℕ
   pub faults : List ℕ
 
-abbrev pub told : ℕ → ℕ → ℕ → ℕ → ℕ → List ℕ → Reply
-told source ballot high low row faults = record { source = source; ballot = ballot; high = high; low = low; row = row; faults = faults }
+abbrev pub told : ℕ → Proposal → ℕ → List ℕ → Reply
+told source proposal row faults = record { source = source; proposal = proposal; row = row; faults = faults }
 
 -- the tally's ballot and value id
-unfoldable pub is_same_value : Tally → ℕ → ℕ → ℕ → Bool
-is_same_value t ballot high low = eqb t.ballot ballot && (eqb t.value_high high && eqb t.value_low low)
+unfoldable pub is_same_value : Tally → Proposal → Bool
+is_same_value t p = eqb t.proposal.ballot p.ballot && (eqb t.proposal.value_high p.value_high && eqb t.proposal.value_low p.value_low)
 
 -- the tally handed in is tested like the opening's values; 16 covers its heard mask, its rows below n and the reply's row
 abbrev pub reply_cases : Tally → Reply → List Case
@@ -72,7 +70,7 @@ reply_cases t r =
     ∷ unless (are_rows t.width (take (t.population * 4) t.rows)) MASK
     ∷ unless (is_row t.width r.row) MASK
     ∷ unless (is_fault_list t.population r.faults) TABLE
-    ∷ unless (is_same_value t r.ballot r.high r.low) OTHER_VALUE
+    ∷ unless (is_same_value t r.proposal) OTHER_VALUE
     ∷ []
 
 unfoldable pub reply_refusal : Tally → Reply → ℕ
@@ -91,9 +89,7 @@ updated t heard committed rows = record {
   quorum = t.quorum;
   data_shards = t.data_shards;
   width = t.width;
-  ballot = t.ballot;
-  value_high = t.value_high;
-  value_low = t.value_low;
+  proposal = t.proposal;
   heard = heard;
   committed = committed;
   rows = rows;
@@ -114,28 +110,15 @@ settled t faults = updated t t.heard (is_committing t faults) t.rows
 
 -- ---- the answer
 
-pub data Said : Type 0 where
-  waiting : Said
-  committed : Said
-  already_committed : Said
-
--- what an answer is: the number that refuses, or what is said of the value
-abbrev pub answer : Answer → Outcome Said
-answer (Answering.Refused k) = refused k
-answer Answering.Waiting = accepted waiting
-answer Answering.Committed = accepted committed
-answer Answering.AlreadyCommitted = accepted already_committed
-
--- whether it is no refusal
-abbrev pub is_taken : Outcome Said → Bool
-is_taken (refused k) = false
-is_taken (accepted said) = true
+-- what is said of the value, of the answer to a reply
+abbrev pub status_of : Replied → Status
+status_of replied = replied.status
 
 -- after commitment "already committed"; otherwise by the reply counted
-abbrev pub said_of : Tally → Reply → Said
-said_of t r = cond t.committed already_committed (cond (is_committing (noted t r.source r.row) r.faults) committed waiting)
+abbrev pub said_of : Tally → Reply → Status
+said_of t r = cond t.committed AlreadyCommitted (cond (is_committing (noted t r.source r.row) r.faults) Committed Waiting)
 
-unfoldable pub reply_of : Tally → Reply → Outcome Said
+unfoldable pub reply_of : Tally → Reply → Outcome Status
 reply_of t r = outcome (reply_refusal t r) (said_of t r)
 
 -- the tally as the reply leaves it: a refusal, and any reply after commitment, leaves it as it was

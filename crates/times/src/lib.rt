@@ -2,10 +2,14 @@
 #![tactic(auto)]
 
 ghost use Rattle.std.specs.Prelude.{◌≡◌, suc, ◌*◌, ◌^◌, ◌<◌, ◌≤◌, false, length};
-ghost use Rattle.times.specs.Times.{most_times, InBounds, PeersInBounds, predict_of, settled, reply_time, time_at, shard_length, times_of, time_in};
+ghost use Rattle.times.specs.Times.{InBounds, PeersInBounds, predict_of, settled, reply_time, time_at, shard_length, times_of};
 ghost use Rattle.refusals.specs.Limits.{most_shards};
 
 use bitmap::ReplicaId;
+
+mod table;
+
+pub use table::TimeTable;
 
 // The performance model of a peer: slope in ms a MiB, delay and jitter in ms.
 #[derive(Clone, Copy)]
@@ -109,33 +113,9 @@ pub fn fill_times(
     requires peers_in_bounds { PeersInBounds n own.0 records }
     ensures { times.new ≡ times_of n own.0 d len records penalty }
 {
-    let mut i = 0;
-    let mut p = 0;
-    let mut k = 0;
-    while i < times.len() {
-        let told = records[p];
-        times[i] = time_at(p == own.0, told, k, len, penalty);
-        if k == d {
-            p += 1;
-            k = 0;
-        } else {
-            k += 1;
+    for p in 0..n {
+        for k in 0..d + 1 {
+            times[p * (d + 1) + k] = time_at(p == own.0, records[p], k, len, penalty);
         }
-        i += 1;
     }
-}
-
-// The time of the replica p with k shards in the table; never, where it has none. A part: the table is one of at most 16 replicas.
-pub fn time_in(d: usize, times: &[f64], p: ReplicaId, k: usize) -> f64
-    requires { (d ≤ most_shards) × (k ≤ most_shards) × (length times.now ≤ most_times) }
-    ensures { result ≡ time_in d times.now p.0 k }
-{
-    if times.len() <= p.0 {
-        return 1.0 / 0.0;
-    }
-    let i = p.0 * (d + 1) + k;
-    if times.len() <= i {
-        return 1.0 / 0.0;
-    }
-    times[i]
 }

@@ -1,7 +1,7 @@
 -- The site sheet's starred lines as one table, and one statement over all its rows, computed by the checker from the entries' own definitions. Assumes nothing.
 use Rattle.std.specs.Prelude.{◌≡◌, refl, Bool, true, false, ℕ, ◌*◌, ◌^◌, length, take, replicate}
 use mathlib.Core.List.{List, [], ◌∷◌, map, foldl}
-use Rattle.std.proofs.Math.Option.{Option, none, some}
+use Rattle.std.specs.Prelude.{Option, None, Some}
 use Prim.Native.String.{String}
 use Rattle.std.specs.Float.{binary64}
 use Rattle.std.specs.Float.Ieee.{add, mul, div, of_int, of_bits, to_bits, le}
@@ -82,8 +82,8 @@ faults_for n f text =
 
 -- no plan, or a plan
 abbrev pub tell_plan : Option Plan → Told
-tell_plan none = no_plan
-tell_plan (some p) = planned (to_bits binary64 p.time) p.width (spelled p.rows)
+tell_plan None = no_plan
+tell_plan (Some p) = planned (to_bits binary64 p.time) p.width (spelled p.rows)
 
 -- by the entries' own definitions. Coverage and plans have the fault list of the tolerance and an empty profile. For coverage all are heard, and the width, which
 -- the sheet leaves open, is the largest

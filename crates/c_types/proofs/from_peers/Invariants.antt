@@ -6,7 +6,3 @@ use Rattle.c_types.proofs.from_peers.Given as goal
 abbrev pub invariant-loop-p : goal.invariant-loop-p
 invariant-loop-p l =
     Filled (peer_at l.heard l.models l.inflight) 16 l.records l.p
-
-abbrev pub decreases-loop-p : goal.decreases-loop-p
-decreases-loop-p l =
-    16 - l.p

@@ -11,4 +11,4 @@ returns c =
     let y = c.policy-choice.ensures in
     let l = c.is_table-lent.ensures in
     let a = c.args in
-    record { answer = rw (c.chosen.ensures, y, l); words = rows_left_are a.n a.f a.own a.d a.w a.majority a.size a.adaptive a.balanced a.models.now a.inflight.now a.alive a.init.now a.table.now a.rows.now l y c.rows_of.ensures c.copy_part.ensures }
+    record { answer = rw (c.into.ensures, y, l); words = rows_left_are a.n a.f a.own a.d a.w a.majority a.size a.adaptive a.balanced a.models.now a.inflight.now a.alive a.init.now a.table.now a.rows.now l y c.rows_of.ensures c.copy_part.ensures }

@@ -17,15 +17,15 @@ loop-p-init c =
 pub loop-p-preserved : goal.loop-p-preserved
 unfolding answered_at loads_at
 loop-p-preserved c =
-    let a = c.args in
+    let t = c.args.times.now in
     elim c.if-run-eq0.branch [
-      | then-run-eq0 w ↦ next_silent a.n a.own.0 a.d a.times.now a.t _ _ _ _ c.loop-p.invariant c.run_at-run.ensures (omega arith) w.if-run-eq0.true w.loads-is w.answered-is
-      | else-run-eq0 w ↦ next_answers a.n a.own.0 a.d a.times.now a.t _ _ _ _ c.loop-p.invariant c.run_at-run.ensures (omega arith) w.if-run-eq0.false w.loads-is (w.answered-is ∙ w.with_replica-answered.ensures)
+      | then-run-eq0 w ↦ next_silent t.population t.own.0 t.data_shards t.times.now c.args.t _ _ _ _ c.loop-p.invariant c.run_at-run.ensures (omega arith) w.if-run-eq0.true w.loads-is w.answered-is
+      | else-run-eq0 w ↦ next_answers t.population t.own.0 t.data_shards t.times.now c.args.t _ _ _ _ c.loop-p.invariant c.run_at-run.ensures (omega arith) w.if-run-eq0.false w.loads-is (w.answered-is ∙ w.with_replica-answered.ensures)
     ]
 
 pub returns : goal.returns
 unfolding answered_at loads_at
 returns c =
-    let a = c.args in
-    let e : c.loop-p.p ≡ a.n = omega arith in
-    record { mask = c.loop-p.invariant.1 ∙ ap (mask_below (answers a.own.0 a.d a.times.now a.t)) e; loads = filled_done _ _ _ _ c.loop-p.invariant.0 (omega arith) }
+    let t = c.args.times.now in
+    let e : c.loop-p.p ≡ t.population = omega arith in
+    record { mask = c.loop-p.invariant.1 ∙ ap (mask_below (answers t.own.0 t.data_shards t.times.now c.args.t)) e; loads = filled_done _ _ _ _ c.loop-p.invariant.0 (omega arith) }

@@ -1,5 +1,5 @@
 -- `candidates::run_from` meets its contract. Assumes nothing.
-use mathlib.Core.Path.{ap}
+use mathlib.Core.Path.{◌≡◌, ap, ◌∙◌}
 use Prim.Native.Nat.{suc, ◌+◌, ◌<◌}
 use native.Mathlib.Omega.{arith}
 use lib.Ieee.{Float, nan, le}
@@ -14,20 +14,19 @@ pub loop-k-preserved : goal.loop-k-preserved
 loop-k-preserved c =
     let a = c.args in
     let h : c.loop-k.k < suc a.d = omega arith in
-    let i : a.from + c.loop-k.k < length a.times.now = omega arith in (
-      omega arith,
-      run_on (in_time_from a.times.now a.t a.from) (suc a.d) c.loop-k.k _ h c.loop-k.invariant.1
-          (ap (λ (x : Float). le x a.t) (inside_any a.times.now (a.from + c.loop-k.k) nan never i)) c.if-times-from.true,
-    )
+    let i : a.from + c.loop-k.k < length a.times.now = omega arith in
+    run_on (in_time_from a.times.now a.t a.from) (suc a.d) c.loop-k.k _ h c.loop-k.invariant
+    (ap (λ (x : Float). le x a.t) (inside_any a.times.now (a.from + c.loop-k.k) nan never i)) c.if-not-times-from.false
 
-pub returns-else-times-from : goal.returns-else-times-from
-returns-else-times-from c =
+pub returns-then-not-times-from : goal.returns-then-not-times-from
+returns-then-not-times-from c =
     let a = c.args in
     let h : c.loop-k.k < suc a.d = omega arith in
     let i : a.from + c.loop-k.k < length a.times.now = omega arith in
-    run_stop (in_time_from a.times.now a.t a.from) (suc a.d) c.loop-k.k _ h c.loop-k.invariant.1
-    (ap (λ (x : Float). le x a.t) (inside_any a.times.now (a.from + c.loop-k.k) nan never i)) c.if-times-from.false
+    run_stop (in_time_from a.times.now a.t a.from) (suc a.d) c.loop-k.k _ h c.loop-k.invariant
+    (ap (λ (x : Float). le x a.t) (inside_any a.times.now (a.from + c.loop-k.k) nan never i)) c.if-not-times-from.true
 
 pub returns : goal.returns
 returns c =
-    run_done _ _ _ (omega arith) c.loop-k.invariant.1
+    let e : c.args.d + 1 ≡ c.loop-k.k = omega arith in
+    e ∙ run_done _ _ _ (omega arith) c.loop-k.invariant

@@ -1,17 +1,15 @@
 -- `decimals::read_digits` meets its contract. Assumes nothing.
-use native.Mathlib.Omega.{arith}
-use Rattle.numerals.proofs.Scans.{all_next, all_end}
+use Rattle.std.proofs.Common.{arith, ap, Some}
+use Rattle.std.proofs.lemmas.Grind.{common_steps}
 use Rattle.decimals.proofs.Steps.{spelling_next, spelling_ends}
 use Rattle.decimals.proofs.read_digits.Goals as goal
 
-pub loop-i-preserved : goal.loop-i-preserved
-loop-i-preserved c =
-    let a = c.args in
-    let h = c.loop-i-test.true in
-    (omega arith, search all_next, rw c.wide.ensures (spelling_next a.v c.loop-i.w c.loop-i.i a.s.now c.loop-i.invariant.2 h))
+pub loop-b-preserved : goal.loop-b-preserved
+loop-b-preserved c =
+    let l = c.loop-b in
+    (grind (arith, common_steps), rw c.from.ensures (spelling_next c.args.v l.w l.b-index c.args.s.now l.invariant.1 c.loop-b-test.true))
 
-pub returns : goal.returns
-returns c =
-    let l = c.loop-i in
-    let a = c.args in
-    (search all_end, spelling_ends a.v l.w l.i a.s.now l.invariant.2 c.loop-i-test.false)
+pub returns-then-ok : goal.returns-then-ok
+returns-then-ok c =
+    let l = c.loop-b in
+    (grind (arith, common_steps), λ e h. ap Some (spelling_ends c.args.v l.w l.b-index c.args.s.now l.invariant.1 c.loop-b-test.false e h))

@@ -2,40 +2,56 @@
 use mathlib.Core.Path.{◌≡◌, refl, ◌∙◌}
 use mathlib.Core.List.{List}
 use mathlib.Core.Bool.{true, ◌&&◌}
-use Prim.Native.Nat.{ℕ, ◌*◌, ◌<◌}
+use Prim.Native.Nat.{ℕ, ◌^◌, ◌<◌}
 use native.Mathlib.Omega.{arith}
 use borrow.Author.Rules.{rules}
 use borrow.Author.Tests.{ltb-true}
 use lib.Dec.{eqb}
 use lib.ListN.{length, get_or, take}
-use Rattle.lists.specs.All.{all}
+use lib.Seq.{take_all}
+use Rattle.std.specs.List.{list_all}
 use Rattle.lists.specs.AllLaws.{all_means}
-use Rattle.refusals.specs.Limits.{is_under}
+use Rattle.refusals.specs.Limits.{is_mask}
 use Rattle.faults.specs.Family.{is_among}
-use Rattle.faults.proofs.Marks.{marked_then, marked_one, marked_none, among_more}
+use Rattle.faults.proofs.Marks.{has_bit_for, marked_then, marked_one, marked_none, among_more}
 use Rattle.faults.proofs.mark_domains.Goals as goal
 
--- the domain at the place i has a bit in the table
-inside : (size i : ℕ) (ds : List ℕ) → all (is_under size) ds ≡ true → i < length ds → get_or ds i 0 < size
-inside size i ds e h = ltb-true (get_or ds i 0) size ((all_means (is_under size) 0 ds).0 e i h)
+-- the domain at the place i is a set of the replicas
+small : (n i : ℕ) (ds : List ℕ) → list_all (is_mask n) ds ≡ true → i < length ds → get_or ds i 0 < 2 ^ n
+small n i ds e h = ltb-true (get_or ds i 0) (2 ^ n) ((all_means (is_mask n) 0 ds).0 e i h)
 
-pub loop-i-init : goal.loop-i-init
+pub loop-domain-init : goal.loop-domain-init
 unfolding is_among
-loop-i-init c =
-    (search rules, refl, marked_none _ _ c.args.table.now (λ j l. refl))
+loop-domain-init g c =
+    record { replicas = refl; marked = marked_none _ _ c.args.marks.now.words (λ j l. refl) }
 
-pub loop-i-preserved : goal.loop-i-preserved
-loop-i-preserved c =
+pub put-requires : goal.put-requires
+put-requires g c =
+    let l = c.loop-domain in
+    let d = small c.args.marks.now.replicas l.domain-index c.args.domains.now c.requires (omega arith) in
+    (search rules, has_bit_for c.args.marks.now.replicas l.marks.replicas l.invariant.replicas _ l.marks.words d l.marks.room)
+
+pub loop-domain-preserved : goal.loop-domain-preserved
+loop-domain-preserved g c =
     let a = c.args in
-    let l = c.loop-i in
+    let n : ℕ = a.marks.now.replicas in
+    let l = c.loop-domain in
+    let v = l.invariant in
     let ds : List ℕ = a.domains.now in
-    let d : ℕ = get_or ds l.i 0 in
-    let size : ℕ = 64 * length a.table.now in
-    let h = c.loop-i-test.true in
-    let i = inside size l.i ds c.requires h in (
-      search rules,
-      c.put.auto.table ∙ l.invariant.1,
-      marked_then size (is_among (take l.i ds)) (λ m. eqb m d && true) _ a.table.now l.table _ l.invariant.2
-          (marked_one size d true l.table _ (omega (arith, i, l.invariant.1)) c.put.ensures refl)
-          (λ m. among_more ds l.i m h),
-    )
+    let i : ℕ = l.domain-index in
+    let h : i < length ds = omega arith in
+    let d : ℕ = get_or ds i 0 in
+    let inside = has_bit_for n l.marks.replicas v.replicas d l.marks.words (small n i ds c.requires h) l.marks.room in
+    record {
+      replicas = c.put.ensures.replicas ∙ v.replicas;
+      marked =
+          marked_then (2 ^ n) (is_among (take i ds)) (λ m. eqb m d && true) _ a.marks.now.words l.marks.words _ v.marked
+          (marked_one (2 ^ n) d true l.marks.words _ inside c.put.ensures.words refl)
+          (λ m. among_more ds i m h);
+    }
+
+pub returns-clause-marked : goal.returns-clause-marked
+returns-clause-marked g c =
+    let ds : List ℕ = c.args.domains.now in
+    let whole : take c.loop-domain.domain-index ds ≡ ds = take_all c.loop-domain.domain-index ds (omega arith) in
+    rw whole at c.loop-domain.invariant.marked

@@ -1,14 +1,12 @@
--- The domains before the place i are flagged.
-use mathlib.Core.Path.{◌≡◌}
-use Prim.Native.Nat.{◌-◌, ◌*◌, ◌≤◌}
-use lib.ListN.{length, take}
+-- The domains before the index are flagged.
+use Rattle.std.proofs.Common.{◌≡◌, ◌^◌, take}
 use Rattle.faults.specs.Family.{is_among}
 use Rattle.faults.specs.Marks.{Marked}
 use Rattle.faults.proofs.mark_domains.Given as goal
 
-abbrev pub invariant-loop-i : goal.invariant-loop-i
-invariant-loop-i l =
-    (l.i ≤ length l.domains) × (length l.table ≡ length l.initial.table) × Marked (64 * length l.initial.table) (is_among (take l.i l.domains)) l.initial.table l.table
-
-abbrev pub decreases-loop-i : goal.decreases-loop-i
-decreases-loop-i l = length l.domains - l.i
+abbrev pub invariant-loop-domain : goal.invariant-loop-domain
+invariant-loop-domain g l =
+    record {
+      replicas : l.marks.replicas ≡ l.initial.marks.replicas;
+      marked : Marked (2 ^ l.initial.marks.replicas) (is_among (take l.domain-index l.domains)) l.initial.marks.words l.marks.words;
+    }

@@ -1,31 +1,33 @@
 -- `gossip::gossip_targets_excl` meets its contract. Assumes nothing.
-use mathlib.Core.Path.{refl, sym, ◌∙◌}
+use mathlib.Core.Path.{◌≡◌, refl, sym, ap, ◌∙◌}
+use Prim.Native.Nat.{◌*◌}
 use native.Mathlib.Omega.{arith}
-use Rattle.refusals.proofs.Outcomes.{outcomes, leaves_all}
-use Rattle.gossip.specs.Gossip.{gossip_of, exclusions_left}
+use lib.ListN.{length, replicate}
+use borrow.Author.Rules.{rules}
+use Rattle.refusals.specs.Refused.{refusal_of}
 use Rattle.gossip.proofs.RefusalLaws.{gossip_sound}
 use Rattle.gossip.proofs.Steps.{asks, excludes}
 use Rattle.gossip.proofs.gossip_targets_excl.Goals as goal
 
-pub returns-then-no-ne0 : goal.returns-then-no-ne0
-unfolding gossip_of exclusions_left
-returns-then-no-ne0 c =
-    record { answer = search outcomes; words = search leaves_all }
+pub invariant_of-peers : goal.invariant_of-peers
+invariant_of-peers c =
+    let s = (gossip_sound _ _ _ _ _ _ _ _ _).0 (sym c.check_gossip.ensures ∙ ap refusal_of c.in_ok-check_gossip.was) in
+    record { few = s.population.1; own_below = s.replica; source_below = s.source_replica; table = s.table }
 
 pub walk-end-requires : goal.walk-end-requires
-unfolding gossip_of exclusions_left
 walk-end-requires c =
-    let s = (gossip_sound _ _ _ _ _ _ _ _ _).0 (sym c.gossip_refusal-no.ensures ∙ c.if-no-ne0.false) in
-    let k = c.fill.auto.rows in
-    (s.population.0, s.population.1, s.replica, s.source_replica, s.table, omega (arith, k, s.each_exclusion))
+    omega (arith, c.fill.auto.self, ((gossip_sound _ _ _ _ _ _ _ _ _).0 (sym c.check_gossip.ensures ∙ ap refusal_of c.in_ok-check_gossip.was)).each_exclusion)
 
 pub returns : goal.returns
-unfolding gossip_of exclusions_left
 returns c =
-    let e = c.gossip_refusal-no.ensures in
-    let z = c.if-no-ne0.false in
+    let no = sym c.check_gossip.ensures ∙ ap refusal_of c.in_ok-check_gossip.was in
     let x = c.args.exclusions.now in
-    let s = (gossip_sound _ _ _ _ _ _ _ _ _).0 (sym e ∙ z) in
-    let t = c.walk-end.new.exclusions in
-    let k = c.fill.auto.rows in
-    let j = c.walk-end.auto.exclusions in record { answer = asks _ _ _ _ _ _ _ _ x _ e z _ c.fill.ensures _ c.walk-end.ensures; words = excludes _ _ _ _ _ _ _ _ x _ e z _ c.fill.ensures _ c.walk-end.ensures t refl (λ i. (c.type_inv.exclusions i).fits) (omega (arith, j, k, s.each_exclusion)) }
+    let s = (gossip_sound _ _ _ _ _ _ _ _ _).0 no in
+    let zeros : c.fill.new.self ≡ replicate (length x) 0 = search rules in
+    let k = c.fill.auto.self in
+    let j = c.walk-end.auto.exclusions in
+    let long : length c.walk-end.new.exclusions ≡ c.args.n * 4 = omega (arith, j, k, s.each_exclusion) in
+    record {
+      answer = asks _ _ _ _ _ _ _ _ x no _ zeros _ c.walk-end.ensures;
+      words = excludes _ _ _ _ _ _ _ _ x no _ zeros _ c.walk-end.ensures _ refl (λ i. (c.type_inv.exclusions i).fits) long;
+    }

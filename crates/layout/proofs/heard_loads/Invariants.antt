@@ -1,4 +1,3 @@
-use Prim.Native.Nat.{◌-◌}
 use lib.ListN.{length}
 use Rattle.lists.proofs.BelowLoops.{Filled}
 use Rattle.layout.specs.Layout.{heard_load}
@@ -7,7 +6,3 @@ use Rattle.layout.proofs.heard_loads.Given as goal
 abbrev pub invariant-loop-s : goal.invariant-loop-s
 invariant-loop-s l =
     Filled (heard_load l.answered l.loads) (length l.loads) l.heard l.s
-
-abbrev pub decreases-loop-s : goal.decreases-loop-s
-decreases-loop-s l =
-    length l.loads - l.s

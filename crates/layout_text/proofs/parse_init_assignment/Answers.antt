@@ -1,33 +1,28 @@
 -- `layout_text::parse_init_assignment` meets its contract. Assumes nothing.
-use mathlib.Core.Path.{sym, ap, ◌∙◌}
-use native.Mathlib.Omega.{arith}
-use Rattle.numerals.specs.Whole.{whole}
+use Rattle.std.proofs.Common.{rules, ◌≡◌, Err, sym, arith}
 use Rattle.layout_text.proofs.LayoutLaws.{readable, length_le}
 use Rattle.layout_text.proofs.Rows.{ends_unread, ends_runs, ends_segments}
 use Rattle.layout_text.proofs.parse_init_assignment.Goals as goal
 
-pub returns-then-no-ne0 : goal.returns-then-no-ne0
-returns-then-no-ne0 c =
-    ends_unread _ _ _ _ _ c.input_refusal-no.ensures c.if-no-ne0.true
-
-pub run_length-requires : goal.run_length-requires
-run_length-requires c =
-    ((readable _ _ _ _).0 (sym c.input_refusal-no.ensures ∙ c.if-no-ne0.false)).population.0
+pub invariant_of-initial : goal.invariant_of-initial
+invariant_of-initial c =
+    let r = (readable _ _ _ _).0 (sym c.in_ok-check_input.ensures) in
+    record { some_replicas = r.population.0; few_replicas = r.population.1; some_shards = omega (arith, r.shards); few_shards = r.shards.2 }
 
 pub write_runs-requires : goal.write_runs-requires
 write_runs-requires c =
-    let r = (readable _ _ _ _).0 (sym c.input_refusal-no.ensures ∙ c.if-no-ne0.false) in
-    (r.population.0, omega (arith, r.shards), r.shards.2, length_le _ _ _ _ r.shards.1 (sym c.run_length.ensures ∙ ap whole c.in-Value.is))
+    let r = (readable _ _ _ _).0 (sym c.in_ok-check_input.ensures) in
+    length_le _ _ _ _ r.shards.1 (sym c.in-Ok.ensures)
 
-pub write_segments-requires : goal.write_segments-requires
-write_segments-requires c =
-    let r = (readable _ _ _ _).0 (sym c.input_refusal-no.ensures ∙ c.if-no-ne0.false) in
-    (r.population.0, r.population.1, r.shards.2)
+pub returns-in-Ok : goal.returns-in-Ok
+returns-in-Ok c =
+    ends_runs _ _ _ _ c.args.rows.now c.in_ok-check_input.ensures c.in-Ok.ensures c.write_runs.ensures
 
-pub returns-in-Value : goal.returns-in-Value
-returns-in-Value c =
-    ends_runs _ _ _ _ c.args.rows.now c.input_refusal-no.ensures c.if-no-ne0.false c.run_length.ensures c.in-Value.is c.write_runs.ensures
+pub returns-in-Err : goal.returns-in-Err
+returns-in-Err c =
+    ends_segments _ _ _ _ c.args.rows.now c.in_ok-check_input.ensures c.in-Err.ensures c.write_segments.ensures
 
-pub returns-in-Refused : goal.returns-in-Refused
-returns-in-Refused c =
-    ends_segments _ _ _ _ c.args.rows.now c.input_refusal-no.ensures c.if-no-ne0.false c.run_length.ensures c.in-Refused.is c.write_segments.ensures
+pub returns-in_err-check_input : goal.returns-in_err-check_input
+returns-in_err-check_input c =
+    let e : c.from_residual.result ≡ Err c.in_err-check_input.field-0.0 = search rules in
+    rw e (ends_unread _ _ _ _ _ _ c.in_err-check_input.ensures)

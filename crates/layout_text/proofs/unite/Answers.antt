@@ -11,4 +11,4 @@ returns c =
     let w0 : c.union.result.w0 < 2 ^ 64 = omega arith in
     let w1 : c.union.result.w1 < 2 ^ 64 = omega arith in
     let w2 : c.union.result.w2 < 2 ^ 64 = omega arith in
-    let w3 : c.union.result.w3 < 2 ^ 64 = omega arith in record { words = united_written a.row c.union.result w0 w1 w2 w3 a.words.now a.r.0 _ c.row_in.ensures c.union.ensures c.put.ensures; room = united_small a.row c.union.result w0 w1 w2 w3 a.words.now a.r.0 _ c.row_in.ensures c.union.ensures }
+    let w3 : c.union.result.w3 < 2 ^ 64 = omega arith in record { words = united_written a.row c.union.result w0 w1 w2 w3 a.words.now a.r.0 _ c.read_row.ensures c.union.ensures c.put.ensures; room = united_small a.row c.union.result w0 w1 w2 w3 a.words.now a.r.0 _ c.read_row.ensures c.union.ensures }

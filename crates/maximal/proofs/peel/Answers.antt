@@ -1,13 +1,18 @@
 -- `maximal::peel` meets its contract. The loop's invariant: the words below k are done, and the others as they were. Assumes nothing.
-use borrow.Author.Rules.{rules}
-use lib.ListN.{length-set}
+use native.Mathlib.Omega.{arith}
+use Prim.Native.Nat.{◌<◌}
+use lib.ListN.{length}
 use Rattle.maximal.proofs.Passes.{one_kept, rest_left, all_kept}
 use Rattle.maximal.proofs.peel.Goals as goal
 
 pub loop-k-preserved : goal.loop-k-preserved
 loop-k-preserved c =
-    (simp length-set (search rules), simp length-set (search rules), search one_kept, search rest_left)
+    let l = c.loop-k in
+    let inside : l.k < length l.table = omega arith in
+    let more = one_kept c.args.table.now c.args.n l.table l.k l.invariant.done l.invariant.left _ inside c.tops-w.ensures in
+    record { done = more; left = rest_left c.args.table.now c.args.n l.table l.k l.invariant.done l.invariant.left _ inside c.tops-w.ensures }
 
 pub returns : goal.returns
 returns c =
-    search all_kept
+    let l = c.loop-k in
+    all_kept c.args.table.now c.args.n l.table l.k l.invariant.done l.invariant.left (omega arith) (omega arith)

@@ -1,13 +1,6 @@
-use Prim.Native.Nat.{◌-◌, ◌≤◌}
-use mathlib.Core.Path.{◌≡◌}
-use lib.ListN.{length}
 use Rattle.maximal.proofs.Passes.{Done, Left}
 use Rattle.maximal.proofs.spread.Given as goal
 
 abbrev pub invariant-loop-k : goal.invariant-loop-k
 invariant-loop-k l =
-    (l.k ≤ length l.table) × (length l.table ≡ length l.initial.table) × Done l.initial.table l.b l.table l.k × Left l.initial.table l.table l.k
-
-abbrev pub decreases-loop-k : goal.decreases-loop-k
-decreases-loop-k l =
-    length l.initial.table - l.k
+    record { done : Done l.initial.table l.b l.table l.k; left : Left l.initial.table l.table l.k }

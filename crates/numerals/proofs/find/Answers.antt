@@ -1,18 +1,22 @@
 -- `numerals::find` meets its contract. Assumes nothing.
-use native.Mathlib.Omega.{arith}
-use borrow.Author.Tests.{eq-eqb, ne_eqb}
-use Rattle.numerals.specs.Text.{is_byte}
-use Rattle.numerals.proofs.Scans.{cut_hit, cut_miss, cut_end}
+use Rattle.std.proofs.Common.{rules, ◌≡◌, ◌+◌, ◌-◌, ◌≤◌, ◌∙◌, sym, false, arith, length, take}
+use Rattle.numerals.specs.Text.{is_byte, cut, has_byte}
+use Rattle.numerals.specs.TextLaws.{cut_le}
+use Rattle.numerals.proofs.Scans.{over_none}
 use Rattle.numerals.proofs.find.Goals as goal
 
-pub returns-then-s-i : goal.returns-then-s-i
-returns-then-s-i c =
-    cut_hit (is_byte _) _ _ _ c.loop-i.invariant.1 c.loop-i-test.true (eq-eqb _ _ c.if-s-i.true)
+pub loop-block-preserved : goal.loop-block-preserved
+loop-block-preserved c =
+    let x = c.args.x in
+    let rest = c.loop-block.rest.now in
+    let k = c.in-Some.ensures.cases in
+    let f : has_byte x (take 16 rest) ≡ false = rw (sym k.0) (sym c.has.ensures ∙ c.if-has.false) in
+    let n : 16 ≤ length rest = omega (arith, k.2) in
+    let e : cut x rest ≡ 16 + cut x c.in-Some.tail.now = rw k.1 (over_none (is_byte x) 16 rest n f) in
+    (omega (arith, k.2), omega (arith, k.2))
 
-pub loop-i-preserved : goal.loop-i-preserved
-loop-i-preserved c =
-    (omega arith, cut_miss (is_byte _) _ _ _ c.loop-i.invariant.1 c.loop-i-test.true (ne_eqb _ _ c.if-s-i.false))
-
-pub returns : goal.returns
-returns c =
-    cut_end (is_byte _) _ _ _ c.loop-i.invariant.1 c.loop-i-test.false
+pub overflow_add-result : goal.overflow_add-result
+overflow_add-result c =
+    let h : c.place.result ≤ length c.loop-block.rest.now = rw c.place.ensures (cut_le (is_byte c.args.x) c.loop-block.rest.now) in
+    let k : length c.args.s.now - length c.loop-block.rest.now + c.place.result ≤ length c.args.s.now = omega arith in
+    search rules

@@ -1,13 +1,11 @@
-use mathlib.Core.Path.{◌≡◌}
-use Prim.Native.Nat.{◌+◌, ◌≤◌, ◌-◌}
-use lib.ListN.{length, drop}
+use Rattle.std.proofs.Common.{◌≡◌, ◌+◌, ◌-◌, ◌≤◌, length}
 use Rattle.numerals.specs.Text.{cut}
 use Rattle.numerals.proofs.find.Given as goal
 
-abbrev pub invariant-loop-i : goal.invariant-loop-i
-invariant-loop-i l =
-    (l.i ≤ length l.s) × (cut l.x l.s ≡ l.i + cut l.x (drop l.i l.s))
+abbrev pub invariant-loop-block : goal.invariant-loop-block
+invariant-loop-block l =
+    (length l.rest ≤ length l.s) × (cut l.x l.s ≡ length l.s - length l.rest + cut l.x l.rest)
 
-abbrev pub decreases-loop-i : goal.decreases-loop-i
-decreases-loop-i l =
-    length l.s - l.i
+abbrev pub decreases-loop-block : goal.decreases-loop-block
+decreases-loop-block l =
+    length l.rest

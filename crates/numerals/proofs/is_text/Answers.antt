@@ -1,14 +1,14 @@
 -- `numerals::is_text` meets its contract. Assumes nothing.
-use Rattle.refusals.proofs.Checks.{ranges}
+use borrow.Author.Tests.{le-leb, lt-leb}
 use Rattle.numerals.specs.Text.{is_text}
 use Rattle.numerals.proofs.is_text.Goals as goal
 
-pub returns-then-most-s : goal.returns-then-most-s
+pub returns-then-s-most : goal.returns-then-s-most
 unfolding is_text
-returns-then-most-s c =
-    search ranges
+returns-then-s-most c =
+    rw (le-leb _ _ c.if-s-most.true) c.all_ascii.ensures
 
-pub returns : goal.returns
+pub returns-else-s-most : goal.returns-else-s-most
 unfolding is_text
-returns c =
-    search ranges
+returns-else-s-most c =
+    rw (lt-leb _ _ c.if-s-most.false)

@@ -2,6 +2,6 @@
 use Rattle.numerals.proofs.Scans.{mask_read}
 use Rattle.numerals.proofs.read_members.Goals as goal
 
-pub returns-in-Row : goal.returns-in-Row
-returns-in-Row c =
-    mask_read _ _ _ c.read_shards.ensures c.requires c.in-Row.is
+pub returns : goal.returns
+returns c =
+    mask_read _ _ _ _ c.requires c.in_ok-read_shards.ensures

@@ -1,28 +1,26 @@
 -- `profile_text::parse_profile` meets its contract. Assumes nothing.
-use mathlib.Core.Path.{sym, ◌∙◌}
-use borrow.Author.Tests.{not-true, not-false}
-use Rattle.refusals.proofs.Checks.{at_most_16}
-use Rattle.profile_text.specs.ProfileText.{profile_of}
-use Rattle.std.proofs.lemmas.Bool.{not_from_false, not_from_true}
+use Rattle.std.proofs.Common.{rules, ◌≡◌, ◌∙◌, sym, true, Err}
+use Rattle.refusals.specs.Limits.{is_population}
+use Rattle.refusals.proofs.Checks.{went_on, population_went_on}
+use Rattle.numerals.specs.Text.{is_text}
+use Rattle.profile_text.specs.ProfileText.{most_bytes, mechanisms_of, profile_of}
 use Rattle.profile_text.proofs.parse_profile.Goals as goal
 
-pub returns-then-not-is_population : goal.returns-then-not-is_population
-unfolding profile_of
-returns-then-not-is_population c =
-    c.refused.ensures ∙ rw (sym c.is_population.ensures ∙ not-true _ (not_from_false _ c.if-not-is_population.true))
+pub invariant_of-reader : goal.invariant_of-reader
+invariant_of-reader c =
+    record { few_replicas = population_went_on _ _ c.is_population.ensures c.in_ok-unless.ensures }
 
-pub returns-then-not-is_text : goal.returns-then-not-is_text
-unfolding profile_of
-returns-then-not-is_text c =
-    c.refused-then-not-is_text.ensures ∙ rw (sym c.is_population.ensures ∙ not-false _ (not_from_true _ c.if-not-is_population.false), sym c.is_text.ensures ∙ not-true _ (not_from_false _ c.if-not-is_text.true))
-
-pub read_mechanisms-requires : goal.read_mechanisms-requires
-unfolding profile_of
-read_mechanisms-requires c =
-    at_most_16 _ _ c.is_population.ensures (not_from_true _ c.if-not-is_population.false)
+pub returns-in_err-read_mechanisms : goal.returns-in_err-read_mechanisms
+unfolding mechanisms_of profile_of
+returns-in_err-read_mechanisms c =
+    let p : is_population c.args.n ≡ true = sym c.is_population.ensures ∙ went_on _ 0 c.in_ok-unless.ensures in
+    let t : is_text most_bytes c.args.s.now ≡ true = sym c.is_text.ensures ∙ went_on _ 5 c.in_ok-unless-2.ensures in
+    let e : c.from_residual-in_err-read_mechanisms.result ≡ Err c.in_err-read_mechanisms.field-0.0 = search rules in
+    rw (e, p, t) (c.in_err-read_mechanisms.ensures ∙ rw c.nothing-p.ensures)
 
 pub returns : goal.returns
-unfolding profile_of
+unfolding mechanisms_of profile_of
 returns c =
-    c.read_mechanisms.ensures
-    ∙ rw (sym c.is_population.ensures ∙ not-false _ (not_from_true _ c.if-not-is_population.false), sym c.is_text.ensures ∙ not-false _ (not_from_true _ c.if-not-is_text.false))
+    let p : is_population c.args.n ≡ true = sym c.is_population.ensures ∙ went_on _ 0 c.in_ok-unless.ensures in
+    let t : is_text most_bytes c.args.s.now ≡ true = sym c.is_text.ensures ∙ went_on _ 5 c.in_ok-unless-2.ensures in
+    rw (p, t) (c.in_ok-read_mechanisms.ensures ∙ rw c.nothing-p.ensures)

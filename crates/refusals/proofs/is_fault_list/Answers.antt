@@ -2,7 +2,7 @@
 use mathlib.Core.Path.{ap, ◌∙◌}
 use Prim.Native.Nat.{ℕ}
 use borrow.Author.Tests.{eq-eqb, ne_eqb}
-use Rattle.lists.specs.All.{all}
+use Rattle.std.specs.List.{list_all}
 use Rattle.lists.specs.AllLaws.{all_same}
 use Rattle.bitmap.specs.Mask.{all_below}
 use Rattle.bitmap.specs.RunLaws.{run_all}
@@ -20,5 +20,5 @@ unfolding is_fault_list
 returns c =
     let a = c.args in
     rw (ne_eqb _ _ c.if-faults-eq0.false)
-    (c.are_under.ensures ∙ ap (λ (limit : ℕ). all (is_under limit) a.faults.now) (c.run.ensures ∙ run_all a.n)
+    (c.are_under.ensures ∙ ap (λ (limit : ℕ). list_all (is_under limit) a.faults.now) (c.run.ensures ∙ run_all a.n)
     ∙ all_same (is_under (all_below a.n)) (is_fault_set a.n) (fault_set_under a.n) a.faults.now)

@@ -1,16 +1,14 @@
 -- `rows::all_of` meets its contract. Assumes nothing.
-use mathlib.Core.Path.{refl}
-use borrow.Author.Rules.{rules}
 use Rattle.rows.proofs.TableLoops.{unite_start, unite_more, unite_last}
 use Rattle.rows.proofs.all_of.Goals as goal
 
 pub loop-s-init : goal.loop-s-init
 loop-s-init c =
-    (search rules, refl, search unite_start)
+    search unite_start
 
 pub loop-s-preserved : goal.loop-s-preserved
 loop-s-preserved c =
-    (search rules, search rules, search unite_more)
+    search unite_more
 
 pub returns : goal.returns
 returns c =

@@ -9,7 +9,7 @@ pub returns-then-w-ge192 : goal.returns-then-w-ge192
 returns-then-w-ge192 c =
     let a = c.args in
     c.is_below.ensures ∙ ap (is_below (a.w - 192)) c.last_of.ensures
-    ∙ last_words_below a.w c.if-w-ge192.true a.rows.now (λ i. (c.shared_slice_known-1.given i).fits)
+    ∙ last_words_below a.w c.if-w-ge192.true a.rows.now (λ i. (c.type_inv.rows i).fits)
 
 pub returns : goal.returns
 returns c =

@@ -1,14 +1,9 @@
 use mathlib.Core.Path.{◌≡◌}
-use Prim.Native.Nat.{◌≤◌, ◌-◌, ◌*◌, ◌/◌}
+use Prim.Native.Nat.{◌*◌}
 use lib.Bits.{bit_or}
-use lib.ListN.{length}
 use Rattle.rows.specs.Row.{last_in, unite_below}
 use Rattle.rows.proofs.last_of_fours.Given as goal
 
 abbrev pub invariant-loop-g : goal.invariant-loop-g
 invariant-loop-g l =
-    (l.g ≤ l.n) × (l.n ≡ length l.rows / 16) × (bit_or (bit_or l.a l.b) (bit_or l.c l.d) ≡ unite_below (last_in l.rows) (l.g * 4))
-
-abbrev pub decreases-loop-g : goal.decreases-loop-g
-decreases-loop-g l =
-    l.n - l.g
+    bit_or (bit_or l.a l.b) (bit_or l.c l.d) ≡ unite_below (last_in l.rows) (l.g * 4)

@@ -5,4 +5,4 @@ use Rattle.rows.proofs.part_in.Goals as goal
 pub returns : goal.returns
 returns c =
     let a = c.args in
-    rw (c.word-w3.ensures, c.word-w2.ensures, c.word-w1.ensures, c.word-w0.ensures) (row_is a.rows.now a.s)
+    rw (c.word_at-w3.ensures, c.word_at-w2.ensures, c.word_at-w1.ensures, c.word_at-w0.ensures) (row_is a.rows.now a.s)

@@ -3,12 +3,12 @@ use Rattle.std.proofs.Common.{eq-eqb, ne_eqb}
 use lib.Ieee.{nan_bits}
 use Rattle.stored.proofs.is_nan.Goals as goal
 
-pub returns-then-bits-ne2047 : goal.returns-then-bits-ne2047
+pub returns-then-bits-eq2047 : goal.returns-then-bits-eq2047
 unfolding nan_bits
-returns-then-bits-ne2047 c =
-    rw (ne_eqb _ _ c.if-bits-ne2047.true)
+returns-then-bits-eq2047 c =
+    rw (eq-eqb _ _ c.if-bits-eq2047.true)
 
-pub returns : goal.returns
+pub returns-else-bits-eq2047 : goal.returns-else-bits-eq2047
 unfolding nan_bits
-returns c =
-    rw (eq-eqb _ _ c.if-bits-ne2047.false)
+returns-else-bits-eq2047 c =
+    rw (ne_eqb _ _ c.if-bits-eq2047.false)

@@ -1,27 +1,30 @@
 -- `times::fill_times` meets its contract. Assumes nothing.
-use Rattle.std.proofs.Common.{arith, rules}
-use Rattle.lists.proofs.BelowLoops.{filled_none, filled_more, filled_done}
+use Rattle.std.proofs.Common.{◌≤◌, ◌*◌, suc, sym, subst, refl, zero-mul, mul-le-mul_right, arith}
+use Rattle.lists.proofs.BelowLoops.{Filled, filled_none, filled_done}
 use Rattle.times.specs.Times.{cell, times_of}
-use Rattle.times.proofs.Tables.{due, next_row, next_load}
+use Rattle.times.proofs.Tables.{due, next_filled}
+use Rattle.times.proofs.TimeLaws.{place_within}
 use Rattle.times.proofs.fill_times.Goals as goal
-use Rattle.times.proofs.fill_times.Goals.{else-k-d, then-k-d}
 
-pub loop-i-init : goal.loop-i-init
-unfolding times_of
-loop-i-init c =
-    (search filled_none, (search rules, omega arith))
-
-pub loop-i-preserved : goal.loop-i-preserved
-unfolding times_of
-loop-i-preserved c =
-    let l = c.loop-i in
+pub loop-p-init : goal.loop-p-init
+loop-p-init c =
     let a = c.args in
-    let k = l.invariant.1.0 in
-    let e = l.invariant.1.1 in (
-      filled_more (cell a.own.0 a.d a.len a.records a.penalty) _ _ _ l.invariant.0 _ (omega arith) (due _ _ _ _ k e a.own.0 a.len a.records a.penalty _ c.time_at.ensures),
-      elim c.if-k-d.branch [ then-k-d w ↦ next_row _ _ _ _ k e _ _ w.if-k-d.true w.p-is w.k-is | else-k-d w ↦ next_load _ _ _ _ k e _ _ w.if-k-d.false w.p-is w.k-is ],
+    let f = cell a.own.0 a.d a.len a.records a.penalty in
+    subst (Filled f (a.n * suc a.d) a.times.now) (sym (zero-mul (suc a.d))) (filled_none f _ a.times.now (omega arith))
+
+pub loop-k-preserved : goal.loop-k-preserved
+loop-k-preserved c =
+    let a = c.args in
+    let p = c.loop-p.p in
+    let k = c.loop-k.k in
+    let load : k ≤ a.d = omega arith in (
+      omega arith,
+      next_filled (cell a.own.0 a.d a.len a.records a.penalty) (a.n * suc a.d) _ a.d p k c.loop-k.invariant.1 _ (place_within a.d p k load a.n c.loop-k.invariant.0)
+          (due a.d _ p k load refl a.own.0 a.len a.records a.penalty _ c.time_at.ensures),
     )
 
 pub returns : goal.returns
 unfolding times_of
-returns c = filled_done _ _ _ _ c.loop-i.invariant.0 (omega arith)
+returns c =
+    let a = c.args in
+    filled_done (cell a.own.0 a.d a.len a.records a.penalty) (a.n * suc a.d) _ _ c.loop-p.invariant (mul-le-mul_right (suc a.d) (omega arith))

@@ -1,9 +1,0 @@
--- `rows::put` meets its contract. Assumes nothing.
-use native.Mathlib.Omega.{arith}
-use Prim.Native.Nat.{◌*◌}
-use Rattle.rows.proofs.Facts.{are_words, put_is}
-use Rattle.rows.proofs.put.Goals as goal
-
-pub returns : goal.returns
-returns c =
-    let a = c.args in put_is a.rows.now (a.s * 4) a.row (are_words a.row (omega arith) (omega arith) (omega arith) (omega arith))
