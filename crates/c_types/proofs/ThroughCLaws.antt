@@ -75,7 +75,7 @@ stays_so : (u : Tally) (r : Reply) → u.committed ≡ true → (tally_after u r
 stays_so u r =
     by_reply u r (λ f v. u.committed ≡ true → v.committed ≡ true) (λ n c. c) (λ e p c. c) (λ e p c. absurd (true≢false (sym c ∙ p)))
 
--- the tally of an opening reads as the entry's; where that is refused, as a tally of nothing
+-- the tally of an opening reads as the entry's; where that is refused, as the all-zero tally
 pub read_opening : (o : Outcome Tally) → from_tally (to_opening o).tally ≡ left o nothing
 unfolding from_tally to_opening to_tally fresh
 read_opening (refused k) = refl

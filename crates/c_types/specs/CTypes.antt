@@ -107,7 +107,7 @@ to_profile p = record {
   domains = p.domains;
 }
 
--- the number beside a profile of nothing, or the profile
+-- the number beside the all-zero profile, or the profile
 unfoldable pub to_reading : Outcome Profile → ProfileReading
 to_reading (refused k) = record { refusal = k; profile = to_profile nothing }
 to_reading (accepted p) = record { refusal = 0; profile = to_profile p }
@@ -148,7 +148,7 @@ to_tally t flag = record {
 unfoldable pub tally_left : C-tally.Tally → Tally → C-tally.Tally
 tally_left t u = to_tally u (cond (is_set t.committed) t.committed (word_of u.committed))
 
--- the number beside a tally of nothing, or the tally
+-- the number beside the all-zero tally, or the tally
 unfoldable pub to_opening : Outcome Tally → TallyOpening
 to_opening (refused k) = record { refusal = k; tally = to_tally no_tally 0 }
 to_opening (accepted t) = record { refusal = 0; tally = to_tally t (word_of t.committed) }

@@ -491,7 +491,7 @@ impl From<Result<tally::Tally, Refusal>> for TallyOpening {
     }
 }
 
-// A tally of nothing.
+// The all-zero tally, which stands beside a refusal.
 #[tactic(auto, unfolding(crate::specs::CTypes::to_tally, tally::specs::Tally::fresh))]
 fn no_tally() -> Tally
     ensures { result ≡ to_tally no_tally 0 }

@@ -71,7 +71,7 @@ impl<'a> Description<'a> {
         read_width(self.value_of(Key::Width)).unwrap_or(TotalShards::Exactly(0))
     }
 
-    // What is said of a peer.
+    // The description of a peer.
     pub fn peer(self, p: u64) -> Option<PeerText<'a>> {
         let line = self.first_peer(p..=p)?;
         Some(line.peer())

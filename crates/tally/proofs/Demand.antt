@@ -21,7 +21,7 @@ use Rattle.tally.specs.Replies.{taken, unrefused, after_all, replies, last_said,
 use Rattle.tally.proofs.ReplyLaws.{all_stay, Sound, sound_fresh, all_decided, all_unrefused, commits_grow, fresh_exact, both_ways}
 
 module _ (n quorum d w : ℕ) (proposal : Proposal) where
-  -- the tally that `open` gives; where it refuses, a tally of nothing
+  -- the tally that `open` gives; where it refuses, the all-zero tally
   abbrev opened : Tally
   opened = left (opening_of n quorum d w proposal) nothing
 

@@ -35,7 +35,7 @@ fresh n quorum d w proposal = record {
   rows = replicate 64 0;
 }
 
--- a tally of nothing
+-- the all-zero tally
 abbrev pub nothing : Tally
 nothing = fresh 0 0 0 0 (record { ballot = 0; value_high = 0; value_low = 0 })
 
@@ -110,7 +110,7 @@ settled t faults = updated t t.heard (is_committing t faults) t.rows
 
 -- ---- the answer
 
--- what is said of the value, of the answer to a reply
+-- the status in the answer to a reply
 abbrev pub status_of : Replied → Status
 status_of replied = replied.status
 

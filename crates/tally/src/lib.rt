@@ -33,7 +33,7 @@ pub struct Tally {
     pub rows: [u64; 64],
 }
 
-// What is said of the value after a reply.
+// What a reply is answered.
 #[derive(Clone, Copy, Debug, PartialEq, Eq)]
 pub enum Status {
     Waiting,
@@ -41,7 +41,7 @@ pub enum Status {
     AlreadyCommitted,
 }
 
-// What is said, and the tally as the reply leaves it.
+// The status, and the tally as the reply leaves it.
 #[derive(Clone, Copy)]
 pub struct Replied {
     pub status: Status,
