@@ -1,5 +1,5 @@
--- What the parts of the policy and its entries rest on: what the checks have tested, and the rows of a choice. The premises are what a need's record holds.
--- Assumes nothing.
+-- What the parts of the policy and its entries rest on: what the checks have tested, and the rows of a choice. The premises are the fields of
+-- a need's record. Assumes nothing.
 use mathlib.Core.Path.{◌≡◌, sym, subst, ◌∙◌}
 use mathlib.Core.Bool.{Bool, cond}
 use mathlib.Core.List.{List}

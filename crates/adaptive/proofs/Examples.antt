@@ -212,7 +212,7 @@ choices =
     ∷ line 2 0 0 130 130 2 0 (0 ∷ 0 ∷ []) [] 3 ((2 ^ 66 - 1) ∷ 0 ∷ []) (each_below (λ (i : ℕ). 2 ^ i) 130 ++ (1 ∷ 2 ∷ [])) false true (accepted (Some 66)) (4 ∷ 8 ∷ [])
     ∷ []
 
--- what both entries come to
+-- what both entries return
 picked : Line → Outcome (Option ℕ) × List ℕ
 picked l =
     let c = policy_of l.n l.f l.own l.d l.w l.majority l.size l.inflight l.models l.alive l.initial l.table l.adaptive l.balanced in

@@ -1,4 +1,4 @@
--- How the code comes to what the definitions say, and worked values.
+-- How the code computes what the definitions say, and worked values.
 pub mod Entries
 pub mod Examples
 pub mod PolicyLaws

@@ -5,12 +5,12 @@ use Rattle.std.proofs.Math.Path.{ap}
 use Rattle.std.proofs.Math.Logic.{inl, inr, ⊎_elim}
 use Rattle.std.proofs.Math.Bool.{and-eq-true_iff}
 use Rattle.std.specs.Prelude.{Option, None, Some}
-use Rattle.lists.specs.OptionLaws.{some-injective, some-ne-none, none-ne-some}
 use Prim.Native.Nat.{ℕ, suc, ◌+◌, ◌-◌, ◌*◌, ◌/◌, ◌%◌, ◌≤◌, ◌<◌, min, max}
 use Rattle.std.proofs.Math.Nat.{mul-pos, le_of_mul-le-mul_right, sub-eq-zero_of_le}
 use Rattle.std.proofs.Math.Decide.{dec_lt, dec_le, ℕ_discrete}
 use native.Mathlib.Omega.{arith}
 use Rattle.std.proofs.lemmas.Bool.{eqb-false, not-true}
+use Rattle.std.proofs.lemmas.Option.{none-some, same_Some}
 use Rattle.lists.specs.AllLaws.{all_means}
 use Rattle.bitmap.specs.Mask.{count}
 use Rattle.rows.specs.Row.{row_in, rows_in, spelled}
@@ -138,7 +138,7 @@ module _ (t : Bool) (o : Option ℕ) where
     where
       go : (t : Bool) → (cond t o None ≡ Some c) ↔ ((t ≡ true) × (o ≡ Some c))
       go true = (λ e. (refl, e), λ h. h.1)
-      go false = (λ e. absurd (none-ne-some c e), λ h. absurd (true≢false (sym h.0)))
+      go false = (λ e. absurd (none-some c e), λ h. absurd (true≢false (sym h.0)))
 
   unmade : (cond t o None ≡ None) ↔ ((t ≡ false) ⊎ (o ≡ None))
   unmade = go t
@@ -185,7 +185,7 @@ module _ (n f own d w majority size : ℕ) (inflight : List ℕ) (models : List 
             let p = a.0 e in
             let q = b.0 p.1 in
             let r = k.0 q.1 in
-            let s = some-injective larger c r.1 in
+            let s = same_Some larger c r.1 in
             let t = (count_there d majority (length table) larger).0 r.0 in
             record { unrefused = p.0; is_balanced = q.0; is_larger = s; filled = t.0; least = omega (arith, t.1); most = omega (arith, t.2) },
         λ h.
@@ -210,7 +210,7 @@ module _ (n f own d w majority size : ℕ) (inflight : List ℕ) (models : List 
       let b = unmade balanced (cond has (Some larger) None) in
       let k = unmade has (Some larger) in
       let l = count_lacking d majority (length table) larger in (
-        λ e. ((a.0 e).0, ⊎_elim (λ u. inl u) (λ u. inr (⊎_elim (λ v. l.0 v) (λ v. absurd (some-ne-none larger v)) (k.0 u))) (b.0 (a.0 e).1)),
+        λ e. ((a.0 e).0, ⊎_elim (λ u. inl u) (λ u. inr (⊎_elim (λ v. l.0 v) (λ v. absurd (none-some larger (sym v))) (k.0 u))) (b.0 (a.0 e).1)),
         λ h. a.1 (h.0, b.1 (⊎_elim (λ u. inl u) (λ u. inr (k.1 (inl (l.1 u)))) h.1)),
       )
 

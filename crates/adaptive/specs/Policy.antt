@@ -10,6 +10,7 @@ use Rattle.refusals.specs.Limits.{most_shards, is_population, is_tolerance, is_r
 use Rattle.times.specs.Times.{models_in}
 use Rattle.adaptive.specs.declared.Policy.{Policy}
 use Rattle.adaptive.specs.declared.Policy.TheVariants.{Initial, Balanced}
+use Rattle.adaptive.specs.declared.PolicyInput.{PolicyInput}
 use Rattle.adaptive.specs.Floor.{floor_of}
 use Rattle.steps.specs.Steps.{in_flight, step_shards, best_step}
 
@@ -52,6 +53,11 @@ unfoldable pub policy_refusal : ℕ → ℕ → ℕ → ℕ → ℕ → ℕ → 
 policy_refusal n f own d w majority size inflight models alive initial table =
     first_of (policy_cases n f own d w majority size inflight models alive initial table)
 
+-- of the code's struct
+abbrev pub refusal_for : PolicyInput → ℕ
+refusal_for p =
+    policy_refusal p.population p.tolerance p.own.0 p.data_shards p.width p.majority p.size p.inflight.now p.models.now p.alive p.initial.now p.table.now
+
 -- ---- the choice
 
 -- that of the first least step; not adaptive, the count of row 0 of the initial layout
@@ -73,6 +79,11 @@ unfoldable pub policy_of : ℕ → ℕ → ℕ → ℕ → ℕ → ℕ → ℕ �
 policy_of n f own d w majority size inflight models alive initial table adaptive balanced =
     outcome (policy_refusal n f own d w majority size inflight models alive initial table)
     (cond balanced (choice_of d majority (length table) (max (best_shards n f own d majority size inflight models initial adaptive) (floor_of f d majority (count alive)))) None)
+
+-- of the code's struct
+abbrev pub policy_for : PolicyInput → Outcome (Option ℕ)
+policy_for p =
+    policy_of p.population p.tolerance p.own.0 p.data_shards p.width p.majority p.size p.inflight.now p.models.now p.alive p.initial.now p.table.now p.adaptive p.balanced
 
 -- ---- the rows of a choice, of the rows of the two tables: none where the input is refused, the initial layout, or those of the count
 abbrev pub rows_of : ℕ → ℕ → ℕ → Outcome (Option ℕ) → List ℕ → List ℕ → List ℕ

@@ -8,15 +8,38 @@ ghost use Rattle.refusals.specs.Limits.{most_shards};
 ghost use Rattle.refusals.specs.Outcome.{accepted};
 ghost use Rattle.refusals.specs.Refused.{refusal_of, outcome_of, outcome_by};
 ghost use Rattle.adaptive.specs.Floor.{floor_of, floor_refusal, min_shards_of};
-ghost use Rattle.adaptive.specs.Policy.{is_balanced_table, has_count, best_shards, policy_refusal, chosen, policy_of, rows_of, Holds};
+ghost use Rattle.adaptive.specs.Policy.{is_balanced_table, has_count, best_shards, refusal_for, chosen, policy_for, rows_of, Holds};
 
 use bitmap::ReplicaId;
 use refusals::{Refusal, unless};
 use rows::{Row, ShardSet};
 use steps::{Peers, Scheme};
 
+// What a choice is made from: the numbers of the scheme, our own number, the width of the rows, the size of the value in bytes; of each
+// replica the bytes in flight to it, and three numbers of its model, slope in ms a MiB, delay and jitter in ms; those alive; and two tables
+// of rows, four words a row: the initial layout, and the balanced table, which is empty or has n rows for each count from d / majority
+// to d.
+// Kept as it is: C lends the bytes in flight and the models as two parallel tables, which are refused one after the other.
+#[derive(Clone, Copy)]
+pub struct PolicyInput<'p, 'a> {
+    pub population: usize,
+    pub tolerance: usize,
+    pub own: ReplicaId,
+    pub data_shards: usize,
+    pub width: usize,
+    pub majority: usize,
+    pub size: u64,
+    pub inflight: &'p [u64],
+    pub models: &'p [f64],
+    pub alive: u64,
+    pub initial: &'a [u64],
+    pub table: &'a [u64],
+    pub adaptive: bool,
+    pub balanced: bool,
+}
+
 // The initial layout, or the rows of so many shards a replica of the balanced table.
-// Kept as it is: the new form is no plainer, since the names of Option do not say which table the rows come from.
+// Kept as it is: an Option is no plainer, since None does not say that the rows are those of the initial layout.
 #[derive(Clone, Copy, Debug, PartialEq, Eq)]
 pub enum Policy {
     Initial,
@@ -64,49 +87,29 @@ pub fn min_shards_per_replica(
     Ok(floor_of(scheme, bitmap::count(alive)))
 }
 
-// Picks the assignment for a value of `size` bytes and the peers now alive: the initial layout, or a count of the balanced table, which has
-// n rows for each count from d / majority to d, or nothing. A row has four words. Of each replica `inflight` has the bytes in flight to it,
-// and `models` three numbers: slope in ms a MiB, delay and jitter in ms.
-// Kept as it is: the C interface passes the parameters one by one.
+// Picks the assignment for a value and the peers now alive: the initial layout, or a count of the balanced table.
 #[tactic(auto, unfolding(crate::specs::Policy::policy_of))]
-pub fn pick_assignment_policy(
-    n: usize,
-    f: usize,
-    own: ReplicaId,
-    d: usize,
-    w: usize,
-    majority: usize,
-    size: u64,
-    inflight: &[u64],
-    models: &[f64],
-    alive: u64,
-    initial: &[u64],
-    table: &[u64],
-    adaptive: bool,
-    balanced: bool,
-) -> Result<Policy, Refusal>
-    ensures { outcome_by chosen result ≡ policy_of n f own.0 d w majority size inflight.now models.now alive initial.now table.now adaptive balanced }
+pub fn pick_assignment_policy(input: &PolicyInput) -> Result<Policy, Refusal>
+    ensures { outcome_by chosen result ≡ policy_for input.now }
 {
-    check_policy(
-        n, f, own, d, w, majority, size, inflight, models, alive, initial, table,
-    )?;
-    if !balanced {
+    check_policy(input)?;
+    if !input.balanced {
         return Ok(Policy::Initial);
     }
     let scheme = Scheme {
-        population: n,
-        tolerance: f,
-        data_shards: d,
-        majority,
+        population: input.population,
+        tolerance: input.tolerance,
+        data_shards: input.data_shards,
+        majority: input.majority,
     };
     let peers = Peers {
-        own,
-        inflight,
-        models,
+        own: input.own,
+        inflight: input.inflight,
+        models: input.models,
     };
-    let best = best_shards(scheme, &peers, size, initial, adaptive);
-    let shards = best.max(floor_of(scheme, bitmap::count(alive)));
-    if has_count(scheme, table.len(), shards) {
+    let best = best_shards(scheme, &peers, input.size, input.initial, input.adaptive);
+    let shards = best.max(floor_of(scheme, bitmap::count(input.alive)));
+    if has_count(scheme, input.table.len(), shards) {
         Ok(Policy::Balanced(shards))
     } else {
         Ok(Policy::Initial)
@@ -114,29 +117,17 @@ pub fn pick_assignment_policy(
 }
 
 // The rows of that choice: a part of one of the two lent tables, empty where the input is refused.
-pub fn pick_assignment_policy_rows<'a>(
-    n: usize,
-    f: usize,
-    own: ReplicaId,
-    d: usize,
-    w: usize,
-    majority: usize,
-    size: u64,
-    inflight: &[u64],
-    models: &[f64],
-    alive: u64,
-    initial: &'a [u64],
-    table: &'a [u64],
-    adaptive: bool,
-    balanced: bool,
-) -> &'a [u64]
-    ensures { result.now ≡ spelled (rows_of n d majority (policy_of n f own.0 d w majority size inflight.now models.now alive initial.now table.now adaptive balanced) (rows_in initial.now) (rows_in table.now)) }
+pub fn pick_assignment_policy_rows<'a>(input: &PolicyInput<'_, 'a>) -> &'a [u64]
+    ensures { result.now ≡ spelled (rows_of input.now.population input.now.data_shards input.now.majority (policy_for input.now) (rows_in input.now.initial.now) (rows_in input.now.table.now)) }
 {
-    let choice = pick_assignment_policy(
-        n, f, own, d, w, majority, size, inflight, models, alive, initial, table, adaptive,
-        balanced,
-    );
-    rows_of(n, d, majority, choice, initial, table)
+    rows_of(
+        input.population,
+        input.data_shards,
+        input.majority,
+        pick_assignment_policy(input),
+        input.initial,
+        input.table,
+    )
 }
 
 // The rows of a choice. A part: the tables have them.
@@ -177,43 +168,38 @@ fn check_floor(n: usize, f: usize, d: usize, majority: usize, alive: u64) -> Res
     unless(refusals::is_mask(n, alive), Refusal::Mask)
 }
 
-// Kept as it is: the C interface passes the parameters one by one, and none of them has been tested yet.
 #[tactic(auto, unfolding(crate::specs::Policy::policy_refusal))]
-fn check_policy(
-    n: usize,
-    f: usize,
-    own: ReplicaId,
-    d: usize,
-    w: usize,
-    majority: usize,
-    size: u64,
-    inflight: &[u64],
-    models: &[f64],
-    alive: u64,
-    initial: &[u64],
-    table: &[u64],
-) -> Result<(), Refusal>
-    ensures { refusal_of result ≡ policy_refusal n f own.0 d w majority size inflight.now models.now alive initial.now table.now }
+fn check_policy(input: &PolicyInput) -> Result<(), Refusal>
+    ensures { refusal_of result ≡ refusal_for input.now }
 {
+    let n = input.population;
+    let d = input.data_shards;
+    let majority = input.majority;
     unless(refusals::is_population(n), Refusal::Population)?;
-    unless(refusals::is_tolerance(n, f), Refusal::Tolerance)?;
-    unless(refusals::is_replica(n, own), Refusal::Replica)?;
-    unless(refusals::is_shards(d, w), Refusal::Shards)?;
+    unless(
+        refusals::is_tolerance(n, input.tolerance),
+        Refusal::Tolerance,
+    )?;
+    unless(refusals::is_replica(n, input.own), Refusal::Replica)?;
+    unless(refusals::is_shards(d, input.width), Refusal::Shards)?;
     unless(refusals::is_quorum(n, majority), Refusal::Quorum)?;
     unless(d % majority == 0, Refusal::Multiple)?;
-    unless(refusals::is_size(size), Refusal::Bytes)?;
+    unless(refusals::is_size(input.size), Refusal::Bytes)?;
     unless(
-        refusals::peers_fit(n, own, |p| bitmap::word_at(inflight, p)),
+        refusals::peers_fit(n, input.own, |p| bitmap::word_at(input.inflight, p)),
         Refusal::Bytes,
     )?;
-    unless(refusals::is_mask(n, alive), Refusal::Mask)?;
-    unless(refusals::are_rows(w, initial), Refusal::Mask)?;
-    unless(refusals::are_rows(w, table), Refusal::Mask)?;
-    unless(inflight.len() == n, Refusal::Table)?;
-    unless(models.len() == n * 3, Refusal::Table)?;
-    unless(refusals::is_table(n, initial.len()), Refusal::Table)?;
+    unless(refusals::is_mask(n, input.alive), Refusal::Mask)?;
     unless(
-        is_balanced_table(n, d, majority, table.len()),
+        refusals::are_rows(input.width, input.initial),
+        Refusal::Mask,
+    )?;
+    unless(refusals::are_rows(input.width, input.table), Refusal::Mask)?;
+    unless(input.inflight.len() == n, Refusal::Table)?;
+    unless(input.models.len() == n * 3, Refusal::Table)?;
+    unless(refusals::is_table(n, input.initial.len()), Refusal::Table)?;
+    unless(
+        is_balanced_table(n, d, majority, input.table.len()),
         Refusal::Table,
     )
 }
@@ -241,7 +227,10 @@ fn floor_of(scheme: Scheme, alive: usize) -> usize
     ensures { result ≡ floor_of scheme.tolerance scheme.data_shards scheme.majority alive }
 {
     let most = scheme.majority + scheme.tolerance + 1;
-    (most.saturating_sub(alive) * scheme.share()).min(scheme.data_shards)
+    if most <= alive {
+        return 0;
+    }
+    ((most - alive) * scheme.share()).min(scheme.data_shards)
 }
 
 // The shards a replica that the models favour; without adaptivity, those of the first row of the initial layout. A part: the size has been

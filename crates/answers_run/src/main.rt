@@ -1,9 +1,9 @@
-// Replays the stored answers of the Rust: a file for each entry. Prints how many lines were answered as they say, or the first that was
-// not. A read that fails ends it with that error.
+// Replays the stored answers, a file for each entry: prints how many lines are answered as they say, or the first that is not.
 #![tactic(auto)]
 
 mod replay; // replay.rt: whether an entry answers a line as it says
 
+use printed::BestEffort;
 use std::alloc::{AllocError, Global};
 use std::fs::File;
 use std::io::Read;
@@ -16,23 +16,28 @@ const BLOCK: usize = 65536;
 
 const BLOCKS: usize = 100;
 
+// The most numbers of a line that are read; the others are cut.
+const MOST_NUMBERS: usize = 512;
+
+// A read that fails ends it with that error; a write that fails is passed over.
 fn main(rt: HostRuntime) -> io::Result<()> {
     let alloc = rt.alloc();
-    file(&rt, alloc, "profile", replay::is_profile)?;
-    file(&rt, alloc, "unreliability", replay::is_unreliability)?;
-    file(&rt, alloc, "faults", replay::is_faults)?;
-    file(&rt, alloc, "covers", replay::is_covers)?;
-    file(&rt, alloc, "survived", replay::is_survived)?;
-    file(&rt, alloc, "layout", replay::is_layout)?;
-    file(&rt, alloc, "commits", replay::is_commits)?;
-    file(&rt, alloc, "plan", replay::is_plan)?;
-    file(&rt, alloc, "full", replay::is_full)?;
-    file(&rt, alloc, "floor", replay::is_floor)?;
-    file(&rt, alloc, "policy", replay::is_policy)?;
-    file(&rt, alloc, "init", replay::is_init)?;
-    file(&rt, alloc, "base_init", replay::is_base_init)?;
-    file(&rt, alloc, "gossip", replay::is_gossip)?;
-    file(&rt, alloc, "tally", replay::is_tally)
+    let out = BestEffort(&rt);
+    file(&rt, &out, alloc, "profile", replay::is_profile)?;
+    file(&rt, &out, alloc, "unreliability", replay::is_unreliability)?;
+    file(&rt, &out, alloc, "faults", replay::is_faults)?;
+    file(&rt, &out, alloc, "covers", replay::is_covers)?;
+    file(&rt, &out, alloc, "survived", replay::is_survived)?;
+    file(&rt, &out, alloc, "layout", replay::is_layout)?;
+    file(&rt, &out, alloc, "commits", replay::is_commits)?;
+    file(&rt, &out, alloc, "plan", replay::is_plan)?;
+    file(&rt, &out, alloc, "full", replay::is_full)?;
+    file(&rt, &out, alloc, "floor", replay::is_floor)?;
+    file(&rt, &out, alloc, "policy", replay::is_policy)?;
+    file(&rt, &out, alloc, "init", replay::is_init)?;
+    file(&rt, &out, alloc, "base_init", replay::is_base_init)?;
+    file(&rt, &out, alloc, "gossip", replay::is_gossip)?;
+    file(&rt, &out, alloc, "tally", replay::is_tally)
 }
 
 // What became of the lines of a file, which are counted from 1, without the empty ones that pad a block.
@@ -55,19 +60,20 @@ impl fmt::Display for Outcome {
 
 // Replays a file by the function that says whether an entry answers a line as it says.
 fn file<F: Fn(Global, Line) -> Result<bool, AllocError>>(
-    rt: &(impl Files + Print),
+    rt: &impl Files,
+    out: &impl Print,
     alloc: Global,
     name: &str,
     is_answered: F,
 ) -> io::Result<()>
     requires { F.IsAlwaysCallable is_answered }
 {
-    print!(rt; "{name}")?;
+    print!(out; "{name}")?;
     match File::open(rt, name) {
-        Err(_) => println!(rt; ": no such file"),
+        Err(_) => println!(out; ": no such file"),
         Ok(mut file) => {
             let outcome = blocks(alloc, &mut file, is_answered)?;
-            println!(rt; ": {outcome}")
+            println!(out; ": {outcome}")
         }
     }
 }
@@ -89,7 +95,11 @@ fn blocks<F: Fn(Global, Line) -> Result<bool, AllocError>>(
                 continue;
             }
             count = count.wrapping_add(1);
-            let numbers = stored::numbers(alloc, line)?;
+            let numbers: Vec<u64> = line
+                .split(|b| *b == b' ')
+                .take(MOST_NUMBERS)
+                .map(stored::number)
+                .collect(alloc)?;
             if !is_answered(alloc, Line(&numbers))? {
                 return Ok(Outcome::Differs(count));
             }

@@ -1,5 +1,4 @@
-// Replays stored answers: for each entry whether it answers the input of a line, asked through the C interface, as the line says. A line
-// has the input, then the answer, and last the words that a lent table is left with. differential/src/bin/stored.rs has the format.
+// For each entry whether it answers a line as it says. A line is the input, the answer, and the words that a lent table is left with.
 ghost use Rattle.std.specs.Prelude.{◌≡◌};
 ghost use Rattle.tally.specs.Tally.{told};
 ghost use Rattle.rows.specs.Row.{row_of};
@@ -11,9 +10,12 @@ use rows::Row;
 use std::alloc::{AllocError, Global};
 use stored::Line;
 
+// The most words of a lent table; a line that has a longer one differs.
+const MOST_WORDS: usize = 512;
+
 pub fn is_profile(alloc: Global, mut line: Line) -> Result<bool, AllocError> {
     let n = line.size();
-    let text = line.bytes(alloc)?;
+    let text = take_bytes(alloc, &mut line)?;
     let r = callboard::callboard_parse_profile(n, &text);
     if line.number() != r.refusal {
         return Ok(false);
@@ -34,7 +36,9 @@ pub fn is_faults(alloc: Global, mut line: Line) -> Result<bool, AllocError> {
     let n = line.size();
     let f = line.size();
     let profile = line.profile();
-    let mut list = line.table(alloc)?;
+    let Some(mut list) = take_table(alloc, &mut line)? else {
+        return Ok(false);
+    };
     let r = callboard::callboard_fault_list(n, f, profile, &mut list);
     Ok(line.is_answer(r) && line.is_slice(&list))
 }
@@ -63,8 +67,10 @@ pub fn is_layout(alloc: Global, mut line: Line) -> Result<bool, AllocError> {
     let d = line.size();
     let ceiling = line.number();
     let width = line.size();
-    let loads = line.loads(alloc)?;
-    let mut rows = line.table(alloc)?;
+    let loads = take_loads(alloc, &mut line)?;
+    let Some(mut rows) = take_table(alloc, &mut line)? else {
+        return Ok(false);
+    };
     let r = callboard::callboard_layout_rows(n, d, ceiling, width, &loads, &mut rows);
     Ok(line.is_answer(r) && line.is_slice(&rows))
 }
@@ -76,9 +82,11 @@ pub fn is_commits(alloc: Global, mut line: Line) -> Result<bool, AllocError> {
     let ceiling = line.number();
     let width = line.size();
     let answered = line.number();
-    let loads = line.loads(alloc)?;
+    let loads = take_loads(alloc, &mut line)?;
     let faults = line.slice();
-    let mut rows = line.table(alloc)?;
+    let Some(mut rows) = take_table(alloc, &mut line)? else {
+        return Ok(false);
+    };
     let r = callboard::callboard_layout_commits(
         n, quorum, d, ceiling, width, answered, &loads, faults, &mut rows,
     );
@@ -95,10 +103,12 @@ pub fn is_plan(alloc: Global, mut line: Line) -> Result<bool, AllocError> {
     let size = line.number();
     let penalty = line.float();
     let heard = line.number();
-    let models = line.floats(alloc)?;
+    let models = take_floats(alloc, &mut line)?;
     let inflight = line.slice();
     let faults = line.slice();
-    let mut rows = line.table(alloc)?;
+    let Some(mut rows) = take_table(alloc, &mut line)? else {
+        return Ok(false);
+    };
     let r = callboard::callboard_pick_assignment(
         n, own, quorum, d, ceiling, width, size, penalty, heard, &models, inflight, faults,
         &mut rows,
@@ -111,7 +121,9 @@ pub fn is_full(alloc: Global, mut line: Line) -> Result<bool, AllocError> {
     let d = line.size();
     let ceiling = line.number();
     let width = line.size();
-    let mut rows = line.table(alloc)?;
+    let Some(mut rows) = take_table(alloc, &mut line)? else {
+        return Ok(false);
+    };
     let r = callboard::callboard_full_copies(n, d, ceiling, width, &mut rows);
     Ok(line.is_answer(r) && line.is_slice(&rows))
 }
@@ -136,12 +148,14 @@ pub fn is_policy(alloc: Global, mut line: Line) -> Result<bool, AllocError> {
     let size = line.number();
     let adaptive = line.number();
     let balanced = line.number();
-    let models = line.floats(alloc)?;
+    let models = take_floats(alloc, &mut line)?;
     let inflight = line.slice();
     let alive = line.number();
     let init = line.slice();
     let table = line.slice();
-    let mut rows = line.table(alloc)?;
+    let Some(mut rows) = take_table(alloc, &mut line)? else {
+        return Ok(false);
+    };
     let r = callboard::callboard_policy_rows(
         n, f, own, d, w, majority, size, adaptive, balanced, &models, inflight, alive, init, table,
         &mut rows,
@@ -153,8 +167,10 @@ pub fn is_init(alloc: Global, mut line: Line) -> Result<bool, AllocError> {
     let n = line.size();
     let d = line.size();
     let total = line.size();
-    let text = line.bytes(alloc)?;
-    let mut rows = line.table(alloc)?;
+    let text = take_bytes(alloc, &mut line)?;
+    let Some(mut rows) = take_table(alloc, &mut line)? else {
+        return Ok(false);
+    };
     let r = callboard::callboard_parse_init_assignment(n, d, total, &text, &mut rows);
     Ok(line.is_answer(r) && line.is_slice(&rows))
 }
@@ -164,9 +180,11 @@ pub fn is_base_init(alloc: Global, mut line: Line) -> Result<bool, AllocError> {
     let n = line.size();
     let d = line.size();
     let total = line.size();
-    let text = line.bytes(alloc)?;
+    let text = take_bytes(alloc, &mut line)?;
     let _words = line.size();
-    let mut rows = stored::table(alloc, n.wrapping_mul(4))?;
+    let Some(mut rows) = lent(alloc, n.wrapping_mul(4))? else {
+        return Ok(false);
+    };
     let r = callboard::callboard_parse_init_assignment(n, d, total, &text, &mut rows);
     Ok(line.is_answer(r) && line.is_first_words(&rows))
 }
@@ -180,7 +198,9 @@ pub fn is_gossip(alloc: Global, mut line: Line) -> Result<bool, AllocError> {
     let available = line.row();
     let rows = line.slice();
     let alive = line.number();
-    let mut exclusions = line.table(alloc)?;
+    let Some(mut exclusions) = take_table(alloc, &mut line)? else {
+        return Ok(false);
+    };
     let r = callboard::callboard_gossip_targets_excl(
         n,
         own,
@@ -254,5 +274,39 @@ fn is_left(tally: &Tally, line: &mut Line) -> bool {
         return false;
     }
     let words = tally.population.min(16) * 4;
-    line.first(words) == &tally.rows[..words]
+    let owed = line.first(words);
+    (0..words).all(|i| bitmap::word_at(owed, i) == tally.rows[i])
+}
+
+// ---- the next value of a line
+
+// A slice of bytes, of loads, of floats.
+fn take_bytes(alloc: Global, line: &mut Line) -> Result<Vec<u8>, AllocError> {
+    line.slice().iter().map(|n| (*n % 256) as u8).collect(alloc)
+}
+
+fn take_loads(alloc: Global, line: &mut Line) -> Result<Vec<usize>, AllocError> {
+    line.slice().iter().map(|n| *n as usize).collect(alloc)
+}
+
+fn take_floats(alloc: Global, line: &mut Line) -> Result<Vec<f64>, AllocError> {
+    line.slice()
+        .iter()
+        .map(|n| stored::float(*n))
+        .collect(alloc)
+}
+
+// A lent table as it is before a call, of as many words as the next number says.
+fn take_table(alloc: Global, line: &mut Line) -> Result<Option<Vec<u64>>, AllocError> {
+    let k = line.size();
+    lent(alloc, k)
+}
+
+// A lent table of k words as it is before a call, unless k is above MOST_WORDS.
+fn lent(alloc: Global, k: usize) -> Result<Option<Vec<u64>>, AllocError> {
+    if MOST_WORDS < k {
+        return Ok(None);
+    }
+    let words = (0..k).map(stored::lent).collect(alloc)?;
+    Ok(Some(words))
 }

@@ -82,7 +82,7 @@ record Line : Type 0 where
 line : ℕ → ℕ → ℕ → ℕ → TotalShards → ℕ → List PeerRecord → ℕ → List ℕ → ℕ → Told → Line
 line n own quorum d total size peers penalty faults rows says = record { n = n; own = own; quorum = quorum; d = d; total = total; size = size; peers = peers; penalty = penalty; faults = faults; rows = rows * 4; says = says }
 
--- n, our own number, quorum, d, total, size, peers, penalty, fault list, length of the lent table; what it comes to
+-- n, our own number, quorum, d, total, size, peers, penalty, fault list, length of the lent table; the result
 sheet : List Line
 unfolding line
 sheet =
@@ -186,7 +186,7 @@ record Copy : Type 0 where
 copy : ℕ → ℕ → TotalShards → List ℕ → Outcome ℕ → List ℕ → Copy
 copy n d total rows says leaves = record { n = n; d = d; total = total; rows = spelled rows; says = says; leaves = spelled leaves }
 
--- n, d, total, the lent table; what it comes to, and the table after it
+-- n, d, total, the lent table; the result, and the table after it
 copies : List Copy
 unfolding copy
 copies =

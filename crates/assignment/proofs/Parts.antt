@@ -1,4 +1,4 @@
--- How the parts of a plan come to what the definitions say. The premises are the fields of a need's record. Assumes nothing.
+-- How the parts of a plan compute what the definitions say. The premises are the fields of a need's record. Assumes nothing.
 use mathlib.Core.Path.{◌≡◌, refl, sym, ap, ◌∙◌}
 use mathlib.Core.Bool.{Bool, true, false, cond}
 use mathlib.Core.List.{List, [], ◌∷◌, ◌++◌}

@@ -1,11 +1,11 @@
--- What a plan is of a commit rule and of a search: the definitions of plans, of what these hold. Assumes nothing.
+-- What a plan is of a commit rule and of a search: the definitions of plans, applied to their fields. Assumes nothing.
 use Rattle.std.specs.Prelude.{List, ℕ, Float, Option}
 use Rattle.refusals.specs.Outcome.{Outcome}
 use Rattle.layout.specs.declared.rule.CommitRule.{CommitRule}
 use Rattle.candidates.specs.declared.search.Search.{Search}
 use Rattle.assignment.specs.Plans.{Plan, laid_out, loads_for, plan_at, plan_of}
 
--- what trimmed loads come to at the time t
+-- the result of trimmed loads at the time t
 abbrev pub rule_laid_out : CommitRule → ℕ → Float → List ℕ → Outcome (Option Plan)
 rule_laid_out r answered t loads = laid_out r.population r.quorum r.data_shards r.total r.faults.now answered t loads
 

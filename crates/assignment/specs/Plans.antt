@@ -23,7 +23,7 @@ pub record Plan : Type 0 where
   pub width : ℕ
   pub rows : List ℕ
 
--- what trimmed loads come to at the time t: laid out and tested once more
+-- the result of trimmed loads at the time t: laid out and tested once more
 abbrev pub laid_out : ℕ → ℕ → ℕ → TotalShards → List ℕ → ℕ → Float → List ℕ → Outcome (Option Plan)
 laid_out n quorum d total faults answered t loads =
     cond (layout_commits n quorum d total answered faults loads)

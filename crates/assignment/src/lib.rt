@@ -125,6 +125,7 @@ fn copies_width(d: usize, total: TotalShards) -> usize
 }
 
 // The plan, by a table with room for so many times. A part: the size, the bytes in flight to the peers and the lent table have been tested.
+// Kept as it is: a struct of rule and lent rows is no plainer, as its methods must ensure that the rule stays the same (so below).
 #[inline(never)]
 fn pick_with_room<const TIMES: usize>(
     rule: &CommitRule,
@@ -200,7 +201,7 @@ fn loads_for(search: &Search, t: f64, loads: &mut [usize]) -> u64
     answered
 }
 
-// What trimmed loads come to.
+// Lays the trimmed loads out, after one more test whether they commit.
 fn lay_out(
     rule: &CommitRule,
     answered: u64,

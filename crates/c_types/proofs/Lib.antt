@@ -1,4 +1,5 @@
--- How the code comes to what the definitions say.
+-- The code meets the definitions.
 pub mod Records
+pub mod Made
 pub mod ThroughCLaws
 pub mod AnswerLaws

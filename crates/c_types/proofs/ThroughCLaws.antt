@@ -1,11 +1,11 @@
 -- Demand 3 (quoted in crates/tally/proofs/Demand.antt) for a caller in C, in the words that C sees: the structs that `callboard_tally_open`
 -- and `callboard_accept_reply` return, and the tally that the latter leaves in the caller's memory.
 --
--- The laws below hold of these two functions because their contracts equate: the first returns to_opening (opening_of n quorum d w proposal),
--- where the proposal is proposal_of ballot high low; the second returns answer_through t r and leaves left_through t r, where t is the tally before the call and r is the reply with its
--- fault list. A reply is refused if `refusal` is not 0; otherwise it is answered committed if `status` is not 0. The premises are those of
--- the demand: the opening was not refused, every unrefused reply was lent the same fault list, each call is handed the tally as the one
--- before it left it, and nothing else writes it. Assumes nothing.
+-- The laws below hold of these two functions because their contracts equate: the first returns to_opening (opening_of n quorum d w
+-- proposal), where the proposal is proposal_of ballot high low; the second returns answer_through t r and leaves left_through t r, where t
+-- is the tally before the call and r is the reply with its fault list. A reply is refused if `refusal` is not 0; otherwise it is answered
+-- committed if `status` is not 0. The premises are those of the demand: the opening was not refused, every unrefused reply was lent the
+-- same fault list, each call is handed the tally as the one before it left it, and nothing else writes it. Assumes nothing.
 use Rattle.std.specs.Prelude.{◌≡◌, refl, ◌↔◌, Bool, false, cond, ℕ, zero, suc}
 use Rattle.std.proofs.Common.{sym, ap, ◌∙◌, true≢false, suc-ne-zero, ne_eqb}
 use Rattle.std.proofs.Math.Path.{subst}
@@ -132,7 +132,7 @@ module _ (n quorum d w : ℕ) (proposal : Proposal) where
   pub same_taken_through : (rs : List Reply) → replies (ran rs) ≡ unrefused opening rs
   same_taken_through rs = ap replies (through rs) ∙ same_taken n quorum d w proposal rs
 
-  -- once committed is said, every later unrefused reply is answered so too
+  -- once a reply is answered committed, every later unrefused reply is answered so too
   pub stays_through : (rs : List Reply) → Stays (ran rs)
   stays_through rs = subst Stays (sym (through rs)) (stays n quorum d w proposal rs)
 

@@ -1,4 +1,4 @@
--- What the structs of the C interface stand for. A refusal is its number, and beside it every other field is 0. Assumes nothing.
+-- The values of the entries as structs of the C interface, and back. A refusal is its number, and beside it every other field is 0. Assumes nothing.
 use Rattle.std.specs.Prelude.{Bool, not, cond, List, ℕ, eqb, Float}
 use Rattle.std.specs.Prelude.{Option, None, Some}
 use Rattle.refusals.specs.Outcome.{Outcome, refused, accepted}

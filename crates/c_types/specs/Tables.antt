@@ -14,7 +14,7 @@ is_records len each n = eqb len (n * each)
 abbrev pub float_at : List Float → ℕ → Float
 float_at xs i = get_or xs i plus_zero
 
--- slope, delay, jitter and unreliability of the replica p stand at p × 4
+-- slope, delay, jitter and unreliability of the replica p are at p × 4 and after
 abbrev pub peer_at : ℕ → List Float → List ℕ → ℕ → PeerRecord
 peer_at heard models inflight p = record {
   peer = cond (has_bit heard p) (Heard (float_at models (p * 4)) (float_at models (p * 4 + 1)) (float_at models (p * 4 + 2)) (float_at models (p * 4 + 3))) Silent;

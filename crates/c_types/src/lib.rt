@@ -16,7 +16,8 @@ use refusals::Refusal;
 use tally::{Proposal, Status};
 use times::{Peer, PeerRecord};
 
-// The number that refuses, or 0; beside a number every other field is 0. So in each struct that answers.
+// The number that refuses, or 0; beside a number every other field is 0. The same holds of each struct below that has a refusal.
+// Kept as it is: the C interface has no Option and no Result, but a number beside the value, here and in each struct with a refusal.
 #[repr(C)]
 #[derive(Clone, Copy)]
 pub struct Answer {
@@ -389,7 +390,7 @@ impl From<Result<profiles::Profile, Refusal>> for ProfileReading {
     }
 }
 
-// A profile that says nothing.
+// The all-zero profile, which is beside a refusal.
 #[tactic(auto, unfolding(crate::specs::CTypes::to_profile, profile_text::specs::ProfileText::nothing))]
 fn no_profile() -> Profile
     ensures { result ≡ to_profile nothing }
@@ -491,7 +492,7 @@ impl From<Result<tally::Tally, Refusal>> for TallyOpening {
     }
 }
 
-// The all-zero tally, which stands beside a refusal.
+// The all-zero tally, which is beside a refusal.
 #[tactic(auto, unfolding(crate::specs::CTypes::to_tally, tally::specs::Tally::fresh))]
 fn no_tally() -> Tally
     ensures { result ≡ to_tally no_tally 0 }
@@ -552,12 +553,5 @@ fn peer_at(heard: u64, models: &[f64], inflight: &[u64], p: usize) -> PeerRecord
 pub fn from_peers(heard: u64, models: &[f64], inflight: &[u64]) -> [PeerRecord; 16]
     ensures { result ≡ from_peers heard models.now inflight.now }
 {
-    let mut records = [PeerRecord {
-        peer: Peer::Silent,
-        inflight: 0,
-    }; 16];
-    for p in 0..16 {
-        records[p] = peer_at(heard, models, inflight, p);
-    }
-    records
+    std::array::from_fn(|p| peer_at(heard, models, inflight, p))
 }

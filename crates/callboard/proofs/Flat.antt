@@ -1,6 +1,6 @@
 -- How a flattened answer comes about, and what the lent rows then hold. The premises are what a need's record holds. Assumes nothing.
 use mathlib.Core.Path.{◌≡◌, refl, sym, ap, ◌∙◌}
-use mathlib.Core.List.{List, []}
+use mathlib.Core.List.{List}
 use Rattle.std.specs.Prelude.{Option, Result}
 use Prim.Native.Nat.{ℕ, zero, suc}
 use lib.Ieee.{Float}

@@ -1,4 +1,4 @@
--- How the code comes to what the definitions say.
+-- Why the code returns what the definitions give.
 pub mod Numbers
 pub mod Flat
 pub mod Rows

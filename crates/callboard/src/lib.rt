@@ -12,26 +12,26 @@ ghost use Rattle.coverage.specs.Coverage.{covers_of, survived_of};
 ghost use Rattle.layout.specs.Layout.{layout_rows_of, rows_written, layout_commits_of, trial_written};
 ghost use Rattle.assignment.specs.Plans.{planned, full_copies_of, copies_written};
 ghost use Rattle.adaptive.specs.Floor.{min_shards_of};
-ghost use Rattle.adaptive.specs.Policy.{chosen};
+ghost use Rattle.adaptive.specs.Policy.{chosen, policy_for};
 ghost use Rattle.layout_text.specs.LayoutText.{init_table};
 ghost use Rattle.refusals.specs.Outcome.{left};
 ghost use Rattle.refusals.specs.Refused.{refusal_of, outcome_of, outcome_by};
 ghost use Rattle.refusals.specs.Limits.{is_table};
 ghost use Rattle.rows.specs.Row.{row_of};
 ghost use Rattle.gossip.specs.Gossip.{gossip_of, exclusions_left};
-ghost use Rattle.tally.specs.Tally.{opening_of, told, reply_of, tally_after};
+ghost use Rattle.tally.specs.Tally.{opening_of, told, from_reply, reply_of, tally_after};
 ghost use Rattle.c_types.specs.CTypes.{to_total, to_answer, to_flag, to_done, to_float, to_layout, to_plan, to_choice, to_reply, to_reading, from_profile, from_tally, tally_left, to_opening, proposal_of};
 ghost use Rattle.callboard.specs.Interface.{pick_in, policy_in, copied, rows_left};
-ghost use Rattle.callboard.specs.Tests.{plan_tables};
+ghost use Rattle.callboard.specs.Tests.{plan_tables, fitting_of};
 
-use adaptive::Policy;
+use adaptive::{Policy, PolicyInput};
 use bitmap::ReplicaId;
 use c_types::{
     Answer, Choice, FloatAnswer, Layout, Plan, Profile, ProfileReading, Reply, Tally, TallyOpening,
 };
 use refusals::{Refusal, unless};
 use rows::Row;
-use tally::{Proposal, Status};
+use tally::{AcceptReply, Proposal, Status};
 
 pub fn callboard_parse_profile(n: usize, text: &[u8]) -> ProfileReading
     ensures { result ≡ to_reading (profile_of n text.now) }
@@ -149,6 +149,7 @@ fn check_tables(
     ensures { refusal_of result ≡ plan_tables (refusal_of typed) n heard models inflight }
 {
     if let Err(refusal) = typed {
+        // Kept as it is: a derived order is no plainer, since the definition (plan_tables) compares the numbers.
         if refusal.number() < Refusal::Mask.number() {
             return Err(refusal);
         }
@@ -203,11 +204,23 @@ pub fn callboard_pick_assignment_policy(
 ) -> Choice
     ensures { result ≡ to_choice (policy_in n f own d w majority size adaptive balanced models.now inflight.now alive init.now table.now true) }
 {
-    policy(
-        n, f, own, d, w, majority, size, adaptive, balanced, models, inflight, alive, init, table,
-        true,
-    )
-    .into()
+    let input = PolicyInput {
+        population: n,
+        tolerance: f,
+        own: ReplicaId(own),
+        data_shards: d,
+        width: w,
+        majority,
+        size,
+        inflight,
+        models,
+        alive,
+        initial: init,
+        table,
+        adaptive: c_types::is_set(adaptive),
+        balanced: c_types::is_set(balanced),
+    };
+    adaptive::pick_assignment_policy(&input).into()
 }
 
 // The same, with the n rows of the choice written to the lent table.
@@ -231,53 +244,33 @@ pub fn callboard_policy_rows<'a>(
     ensures answer { result ≡ to_choice (policy_in n f own d w majority size adaptive balanced models.now inflight.now alive init.now table.now (is_table n (length rows.old))) }
     ensures words { rows.new ≡ rows_left n d majority (policy_in n f own d w majority size adaptive balanced models.now inflight.now alive init.now table.now (is_table n (length rows.old))) init.now table.now rows.old }
 {
-    let lent = refusals::is_table(n, rows.len());
-    let choice = policy(
-        n, f, own, d, w, majority, size, adaptive, balanced, models, inflight, alive, init, table,
-        lent,
-    );
-    copy_part(adaptive::rows_of(n, d, majority, choice, init, table), rows);
-    choice.into()
-}
-
-// The choice, where the table for the rows fits, if one is lent.
-// Kept as it is: the C interface passes the parameters one by one.
-fn policy(
-    n: usize,
-    f: usize,
-    own: usize,
-    d: usize,
-    w: usize,
-    majority: usize,
-    size: u64,
-    adaptive: u64,
-    balanced: u64,
-    models: &[f64],
-    inflight: &[u64],
-    alive: u64,
-    init: &[u64],
-    table: &[u64],
-    lent: bool,
-) -> Result<Policy, Refusal>
-    ensures { outcome_by chosen result ≡ policy_in n f own d w majority size adaptive balanced models.now inflight.now alive init.now table.now lent }
-{
-    let choice = adaptive::pick_assignment_policy(
-        n,
-        f,
-        ReplicaId(own),
-        d,
-        w,
+    let input = PolicyInput {
+        population: n,
+        tolerance: f,
+        own: ReplicaId(own),
+        data_shards: d,
+        width: w,
         majority,
         size,
         inflight,
         models,
         alive,
-        init,
+        initial: init,
         table,
-        c_types::is_set(adaptive),
-        c_types::is_set(balanced),
-    )?;
-    unless(lent, Refusal::Table)?;
+        adaptive: c_types::is_set(adaptive),
+        balanced: c_types::is_set(balanced),
+    };
+    let choice = policy(&input, refusals::is_table(n, rows.len()));
+    copy_part(adaptive::rows_of(n, d, majority, choice, init, table), rows);
+    choice.into()
+}
+
+// The choice, where the table that is lent for its rows fits.
+fn policy(input: &PolicyInput, fits: bool) -> Result<Policy, Refusal>
+    ensures { outcome_by chosen result ≡ fitting_of fits (policy_for input.now) }
+{
+    let choice = adaptive::pick_assignment_policy(input)?;
+    unless(fits, Refusal::Table)?;
     Ok(choice)
 }
 
@@ -362,26 +355,22 @@ pub fn callboard_accept_reply(
 {
     counted(
         t,
-        ReplicaId(source),
-        proposal(ballot, high, low),
-        row,
-        faults,
+        &AcceptReply {
+            source: ReplicaId(source),
+            proposal: proposal(ballot, high, low),
+            row,
+            faults,
+        },
     )
     .into()
 }
 
-// The same, of the values that the words stand for.
-fn counted(
-    t: &mut Tally,
-    source: ReplicaId,
-    proposal: Proposal,
-    row: Row,
-    faults: &[u64],
-) -> Result<Status, Refusal>
-    ensures answer { outcome_of result ≡ reply_of (from_tally t.old) (told source.0 proposal (row_of row) faults.now) }
-    ensures tally { t.new ≡ tally_left t.old (tally_after (from_tally t.old) (told source.0 proposal (row_of row) faults.now)) }
+// The same, with the reply in a struct.
+fn counted(t: &mut Tally, r: &AcceptReply) -> Result<Status, Refusal>
+    ensures answer { outcome_of result ≡ reply_of (from_tally t.old) (from_reply r.now) }
+    ensures tally { t.new ≡ tally_left t.old (tally_after (from_tally t.old) (from_reply r.now)) }
 {
-    let replied = tally::reply((*t).into(), source, proposal, row, faults)?;
+    let replied = tally::reply((*t).into(), r)?;
     *t = c_types::tally_left(*t, replied.tally);
     Ok(replied.status)
 }

@@ -1,6 +1,7 @@
 // The static library: an export for each function of the C interface (include/callboard.h), with the same clauses. Each calls the function
 // of its name in the crate callboard, which has the interface as a library.
-// Kept as it is: the C interface needs its exports in a static library, which no library can be, so the clauses are said twice.
+// Kept as it is: the C interface needs its exports in a static library, which no library can be, so the clauses are written twice.
+// Kept as it is: the C interface fixes the parameters, one by one, and lends tables side by side.
 #![tactic(auto)]
 
 ghost use Rattle.std.specs.Prelude.{◌≡◌, true, length};

@@ -1,3 +1,3 @@
--- How the code comes to what the definitions say.
+-- How the code computes what the definitions say.
 pub mod Parts
 pub mod SearchLaws

@@ -192,11 +192,11 @@ module _ (s t : Float) (under : le s t ≡ true) (over : le t s ≡ true) where
 
 -- ---- the first time that commits
 
--- x is in the list and passes the test, and whatever in the list passes is x or stands after it in total order
+-- x is in the list and passes the test, and whatever in the list passes is x or is after it in total order
 abbrev pub First : (Float → Bool) → List Float → Float → Type 0
 First f xs x = FirstIn total_le Order.total Order.trans Fits Order.antisym f xs x
 
--- so nothing in the list that stands before x passes
+-- so nothing in the list that is before x passes
 pub first_before : (f : Float → Bool) (xs : List Float) (x : Float)
     → First f xs x ↔ (Memᴰ x xs × (f x ≡ true) × ((y : Float) → Memᴰ y xs → total_le x y ≡ false → f y ≡ false))
 first_before f xs x = (
@@ -213,7 +213,7 @@ first_before f xs x = (
     on y h e false q = absurd (true≢false (sym e ∙ h q))
 
 module _ (n own quorum d : ℕ) (total : TotalShards) (faults : List ℕ) (times : List Float) where
-  -- the time that is found is a candidate, commits, and stands before every other candidate that does
+  -- the time that is found is a candidate, commits, and is before every other candidate that does
   pub first_time_means : AllOf Fits times → (t : Float)
       → (first_time n own quorum d total faults times ≡ Some t) ↔ First (commits_at n own quorum d total faults times) (candidates times) t
   unfolding first_time

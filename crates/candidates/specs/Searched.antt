@@ -1,4 +1,4 @@
--- What a search finds: the definitions of the search, of what one holds. Assumes nothing.
+-- What a search finds: the definitions of the search, applied to its fields. Assumes nothing.
 use Rattle.std.specs.Prelude.{Bool, Option, Float}
 use Rattle.candidates.specs.declared.search.Search.{Search}
 use Rattle.candidates.specs.Search.{commits_at, first_time}

@@ -16,7 +16,7 @@ mod search;
 
 pub use search::Search;
 
-// Whether the time stands also one place before, or at the same load one or two replicas before. Our own times are all equal, and so are
+// Whether the time is also one place before, or at the same load one or two replicas before. Our own times are all equal, and so are
 // those of equal peers.
 fn is_repeat(d: usize, times: &[f64], i: usize) -> bool
     requires { (d ≤ most_shards) × (i < length times.now) }
@@ -46,12 +46,12 @@ pub fn loads_at(times: &TimeTable, t: f64, loads: &mut [usize]) -> u64
     ensures loads { loads.new ≡ loads_at times.now.own.0 times.now.data_shards times.now.times.now t times.now.population }
 {
     let mut answered = 0;
-    for p in 0..times.population {
+    for (p, load) in loads.iter_mut().enumerate() {
         let run = run_at(times, t, ReplicaId(p));
         if run == 0 {
-            loads[p] = 0;
+            *load = 0;
         } else {
-            loads[p] = run - 1;
+            *load = run - 1;
             answered = bitmap::with_replica(answered, ReplicaId(p));
         }
     }
@@ -79,10 +79,8 @@ fn run_from(d: usize, times: &[f64], from: usize, t: f64) -> usize
     requires { (d ≤ most_shards) × (from + d < length times.now) }
     ensures { result ≡ run_of (λ (k : ℕ). le (get_or times.now (from + k) never) t) (suc d) }
 {
-    for k in 0..d + 1 {
-        if !(times[from + k] <= t) {
-            return k;
-        }
-    }
-    d + 1
+    times[from..][..d + 1]
+        .iter()
+        .position(|x| !(*x <= t))
+        .unwrap_or(d + 1)
 }

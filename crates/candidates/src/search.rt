@@ -21,7 +21,7 @@ impl Search<'_, '_> {
     ghost use Rattle.floats.specs.Floats.{is_finite, total_le};
     ghost use Rattle.candidates.specs.Searched.{search_commits, search_time};
 
-    // The first candidate in total order that commits. One pass serves: a candidate is tested only if it stands before the best so far and is
+    // The first candidate in total order that commits. One pass serves: a candidate is tested only if it is before the best so far and is
     // no repeat.
     pub fn first_time(&self) -> Option<f64>
         ensures { result ≡ search_time self.now }

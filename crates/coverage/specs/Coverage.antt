@@ -11,10 +11,6 @@ use Rattle.refusals.specs.Limits.{is_population, is_shards, is_mask, are_rows, i
 
 -- ---- coverage
 
--- 1 where s is heard and not in the set, else 0
-abbrev pub flag_of : ℕ → ℕ → ℕ → ℕ
-flag_of heard fault s = cond (has_bit heard s && not (has_bit fault s)) 1 0
-
 -- the row of s where s is heard and not in the set `fault`; else no shard
 abbrev pub share_of : (ℕ → ℕ) → ℕ → ℕ → ℕ → ℕ
 share_of row heard fault s = cond (has_bit heard s && not (has_bit fault s)) (row s) 0

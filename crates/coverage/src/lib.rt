@@ -5,9 +5,8 @@ ghost use Rattle.std.specs.Prelude.{◌≡◌, ◌*◌, ◌≤◌, length};
 ghost use Rattle.std.specs.List.{list_all, list_any};
 ghost use Rattle.rows.specs.Row.{row_in};
 ghost use Rattle.refusals.specs.Refused.{refusal_of, outcome_of};
-ghost use Rattle.coverage.specs.Coverage.{flag_of, union_of, leaves, RowsBelow, is_covered, commits, covers_refusal, covers_of, completes, is_survived, survived_refusal, survived_of};
+ghost use Rattle.coverage.specs.Coverage.{union_of, leaves, RowsBelow, is_covered, commits, covers_refusal, covers_of, completes, is_survived, survived_refusal, survived_of};
 
-use bitmap::ReplicaId;
 use refusals::{Refusal, unless};
 use rows::{Row, ShardSet};
 
@@ -58,29 +57,20 @@ impl Holdings<'_> {
         d <= self.united::<Row>(fault).count()
     }
 
-    // The shards that the replicas heard outside the set hold, once each. No branch on either: which way one would go can't be foreseen.
+    // The shards that the replicas heard outside the set hold, once each. `left` is the mask of these replicas from s on, so its lowest bit
+    // tells whether s is one of them. No branch on it: which way one would go can't be foreseen.
     #[tactic(auto, unfolding(crate::specs::Coverage::union_of))]
     fn united<S: ShardSet>(&self, fault: u64) -> S
         ensures { S.members result ≡ union_of (S.read self.now.rows.now) self.now.heard fault self.now.population }
     {
         let mut acc = S::none();
+        let mut left = self.heard & !fault;
         for s in 0..self.population {
-            let row = S::read_row(self.rows, s);
-            acc = acc.union(row.taken(flag(self.heard, fault, ReplicaId(s))));
+            acc = acc.union(S::read_row(self.rows, s).taken(left % 2));
+            left /= 2;
         }
         acc
     }
-}
-
-// 1 if the replica s is heard and not in the set, else 0.
-fn flag(heard: u64, fault: u64, s: ReplicaId) -> u64
-    ensures { result ≡ flag_of heard fault s.0 }
-{
-    let k = s.0;
-    if 64 <= k {
-        return 0;
-    }
-    (heard >> k) % 2 * (1 - (fault >> k) % 2)
 }
 
 // The commit rule: without the replicas of any listed set, the rows of those heard still have at least d distinct shards.

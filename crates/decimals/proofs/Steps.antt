@@ -72,7 +72,7 @@ module _ (v i : ℕ) (s : List ℕ) {n : ℕ} (inv : n ≡ spelt v (drop i s)) w
   unfolding spelt
   spelt_end h = sym (inv ∙ simp (drop_of_length-le s h))
 
--- ---- a step that takes a byte for a digit: what it comes to where all bytes are digits and there is room for them
+-- ---- a step that takes a byte for a digit: what holds where all bytes are digits and there is room for them
 module _ (v w i : ℕ) (s : List ℕ) where
   abbrev pub Spelling : Type 0
   Spelling = list_all is_digit s ≡ true → (v + 1) * 10 ^ length s ≤ 10 ^ 15 → ((w + 1) * 10 ^ (length s - i) ≤ 10 ^ 15) × (spelt v s ≡ spelt w (drop i s))

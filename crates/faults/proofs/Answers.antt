@@ -1,14 +1,16 @@
 -- The three ways to list the maximal sets of a family, and what the table that is lent for it is. Assumes nothing.
-use Prim.Native.Nat.{ℕ, ◌-◌, ◌^◌, ◌<◌}
+use Prim.Native.Nat.{ℕ, ◌+◌, ◌*◌, ◌-◌, ◌/◌, ◌%◌, ◌^◌, ◌<◌, ◌≤◌}
 use native.Mathlib.Omega.{arith}
 use mathlib.Core.Path.{◌≡◌, refl, sym, ap, ◌∙◌}
 use mathlib.Core.Bool.{Bool, true, false, cond}
 use mathlib.Core.List.{List}
 use lib.Dec.{leb}
-use lib.ListN.{length}
-use lib.Pow.{ones_lt}
+use lib.ListN.{length, take}
+use lib.Pow.{ones_lt, pow_mono, pow_pos}
+use lib.Seq.{length-take-le}
 use Rattle.lists.specs.Below.{front}
 use Rattle.bitmap.specs.Mask.{all_below}
+use Rattle.bitmap.proofs.Words.{one_shl}
 use Rattle.marks.specs.Marks.{flagged}
 use Rattle.refusals.specs.Numbers.{EVERY_REPLICA, ROOM}
 use Rattle.refusals.specs.Outcome.{refused, accepted}
@@ -56,6 +58,32 @@ module _ (g : ℕ → Bool) (n m : ℕ) (t : List ℕ) (same : m ≡ n) (flags :
   pub family_words : (l : List ℕ) → list_words (flagged t) m l ≡ list_words g n l
   unfolding Flags
   family_words l = rw same (words_same (flagged t) g n flags l)
+
+-- ---- the last of the 2 ^ n sets has a bit in a table of as many
+pub last_set : (n : ℕ) → n ≤ 16 → (t : List ℕ) → 2 ^ n ≤ 64 * length t → 1 * 2 ^ n % 2 ^ 64 - 1 < 64 * length t
+last_set n h t e = omega (arith, one_shl 64 n (omega arith), pow_pos n)
+
+-- ---- the words that have the bits of 2 ^ n sets: a table with a bit for each has as many, and the first so many of its words have a bit
+-- for each
+abbrev pub words_for : ℕ → ℕ
+words_for n = (1 * 2 ^ n % 2 ^ 64 + 63) / 64
+
+module _ (n : ℕ) (h : n ≤ 16) (l : List ℕ) (e : 2 ^ n ≤ 64 * length l) where
+  pub inside : words_for n ≤ length l
+  inside = omega (arith, one_shl 64 n (omega arith))
+
+  pub counted : words_for n ≡ length (take (words_for n) l)
+  counted = sym (length-take-le (words_for n) l inside)
+
+  pub enough : 2 ^ n ≤ 64 * length (take (words_for n) l)
+  enough = omega (arith, one_shl 64 n (omega arith), counted)
+
+-- ---- a table of 4 words has a bit for each set of 8 replicas, one of 1,024 for each of 16
+pub small_holds : (n : ℕ) (l : List ℕ) → n ≤ 8 → length l ≡ 4 → 2 ^ n ≤ 64 * length l
+small_holds n l h e = omega (arith, pow_mono h)
+
+pub large_holds : (n : ℕ) (l : List ℕ) → n ≤ 16 → length l ≡ 1024 → 2 ^ n ≤ 64 * length l
+large_holds n l h e = omega (arith, pow_mono h)
 
 -- ---- the last of the 2 ^ n sets: its flag is that of the set of all replicas
 pub whole_set : (n size : ℕ) (t : List ℕ) (r b : Bool) → size ≡ 2 ^ n → r ≡ flagged t (size - 1) → r ≡ b → flagged t (all_below n) ≡ b

@@ -1,11 +1,17 @@
--- The finished table: the sets of f replicas, then the domains, then, where probabilities are known, the probable sets. Assumes nothing.
-use Prim.Native.Nat.{ℕ, ◌^◌}
+-- The finished table: the sets of f replicas, then the domains, then, where probabilities are known, the probable sets; and where the
+-- domains are. Assumes nothing.
+use Prim.Native.Nat.{ℕ, ◌^◌, ◌≤◌}
 use native.Mathlib.Nat.{div-one, mod-one}
+use native.Mathlib.Omega.{arith}
 use mathlib.Core.Path.{◌≡◌, refl, ◌∙◌}
 use mathlib.Core.Bool.{Bool, true, false, ◌&&◌, ◌||◌}
 use mathlib.Core.List.{List}
+use borrow.Author.Tests.{lt-ltb, ltb-true}
 use lib.Ieee.{Float}
 use lib.ListN.{length, replicate}
+use Rattle.std.specs.List.{list_all}
+use Rattle.lists.specs.ListedLaws.{all_listed, listed_all}
+use Rattle.refusals.specs.Limits.{is_mask, is_under}
 use Rattle.floats.specs.Floats.{one}
 use Rattle.marks.specs.MarkLaws.{none_flagged}
 use Rattle.maximal.specs.Tables.{Flags}
@@ -45,3 +51,8 @@ module _ (n : ℕ) (known : Bool) (ps : List Float) (threshold : Float) (b : Lis
 
   pub none_marked : known ≡ false → Marked (2 ^ n) (λ m. known && is_hit ps 0 0 one threshold m) b b
   none_marked k = rw k (marked_none (2 ^ n) (λ m. false) b (λ j l. refl))
+
+-- domains of n replicas have a bit each in a table of 2 ^ n
+pub domains_below : (n size : ℕ) (ds : List ℕ) → 2 ^ n ≤ size → list_all (is_mask n) ds ≡ true → list_all (is_under size) ds ≡ true
+domains_below n size ds e h =
+    listed_all (is_under size) ds (λ m d. lt-ltb m size (omega (arith, ltb-true m (2 ^ n) (all_listed (is_mask n) ds h m d))))

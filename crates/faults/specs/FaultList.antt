@@ -41,7 +41,7 @@ pub record Accepted (n : ℕ) (p : Profile) : Type 0 where
   pub members : list_all (is_mask n) (domains_of p) ≡ true
   pub chances : has_probs p ≡ true → list_all is_probability (probs_of n p) ≡ true
 
--- what listing the maximal sets of any family g comes to, and what it leaves in the list
+-- the answer of listing the maximal sets of any family g, and the list after it
 unfoldable pub list_answer : (ℕ → Bool) → ℕ → ℕ → Outcome ℕ
 list_answer g n room = outcome (first_of (list_cases g n room)) (length (maximals g n))
 

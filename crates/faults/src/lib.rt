@@ -67,7 +67,7 @@ fn list_maximal<const WORDS: usize>(
 {
     let all = marks.sets() - 1;
     unless(!marks.has(all), Refusal::EveryReplica)?;
-    maximal::keep(marks);
+    maximal::keep_marks(marks);
     let count = marks.count();
     unless(count <= list.len(), Refusal::Room)?;
     marks.write(list);

@@ -1,4 +1,4 @@
--- What is said of a float: whether it is finite, where it stands in total order, whether it is a probability. Assumes nothing.
+-- Tests of a float: whether it is finite, its place in total order, whether it is a probability. Assumes nothing.
 use Rattle.std.specs.Prelude.{ℕ, ◌*◌, ◌≡◌, Bool, true, false, not, ◌&&◌, ◌||◌, cond, pos, T, leb, Float}
 use Rattle.std.specs.Prelude.{Option, None, Some}
 use Rattle.std.specs.Float.{nan, inf, fin, binary64}

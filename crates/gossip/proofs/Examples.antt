@@ -78,7 +78,7 @@ sheet =
     ∷ line 4 1 3 4 4 0 (1 ∷ 2 ∷ 4 ∷ 8 ∷ []) 8 4 (accepted 8) (0 ∷ 0 ∷ 0 ∷ 0 ∷ [])
     ∷ line 3 1 0 1 3 0 (1 ∷ 2 ∷ 4 ∷ []) 2 3 (accepted 0) (0 ∷ 0 ∷ 0 ∷ [])
     ∷ line 3 1 0 1 3 0 (1 ∷ 2 ∷ 4 ∷ []) 0 3 (accepted 0) (0 ∷ 0 ∷ 0 ∷ [])
-    -- the source stands in the middle of the ring, or first, and comes last; it is not needed; it is oneself
+    -- the source is in the middle of the ring, or first, and is taken last; it is not needed; it is oneself
     ∷ line 5 0 2 5 5 1 (1 ∷ 2 ∷ 4 ∷ 8 ∷ 16 ∷ []) 31 5 (accepted 30) (0 ∷ 1 ∷ 27 ∷ 3 ∷ 11 ∷ [])
     ∷ line 4 0 1 4 4 1 (1 ∷ 2 ∷ 4 ∷ 8 ∷ []) 15 4 (accepted 14) (0 ∷ 13 ∷ 1 ∷ 5 ∷ [])
     ∷ line 4 0 1 3 4 1 (1 ∷ 2 ∷ 4 ∷ 8 ∷ []) 15 4 (accepted 12) (0 ∷ 0 ∷ 1 ∷ 5 ∷ [])

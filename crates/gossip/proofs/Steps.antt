@@ -1,51 +1,23 @@
--- How the parts of the walk come to what is defined. The premises of each law are the fields of a need's record. Assumes nothing.
-use mathlib.Core.Path.{◌≡◌, refl, sym, ap, ◌∙◌}
+-- How the parts of the walk compute what is defined. The premises of each law are the fields of a need's record. Assumes nothing.
+use mathlib.Core.Path.{◌≡◌, sym, ap, ◌∙◌}
 use mathlib.Core.Logic.{inl}
-use mathlib.Core.Bool.{Bool, true, false, not, ◌&&◌}
+use mathlib.Core.Bool.{Bool, true, false, not}
 use mathlib.Core.List.{List, [], ◌∷◌, foldl, foldl-append}
 use Prim.Native.Nat.{ℕ, ◌+◌, ◌-◌, ◌*◌, ◌%◌, ◌^◌, ◌≤◌, ◌<◌}
-use native.Mathlib.Decide.{ℕ_discrete}
 use native.Mathlib.Omega.{arith}
-use Rattle.std.proofs.Math.Bool.{and-eq-true_iff}
-use borrow.Author.Tests.{eqb-true, eq-eqb, ne_eqb}
 use lib.Bits.{bit_or}
 use lib.Dec.{leb, eqb}
-use lib.ListN.{length, get_or, set, replicate}
+use lib.ListN.{length, set, replicate}
 use Rattle.lists.proofs.BelowLoops.{taken_below, taken_none, taken_yes, taken_no, taken_still}
 use Rattle.bitmap.specs.Mask.{with_bit, count}
-use Rattle.rows.specs.declared.Row.{Row}
-use Rattle.rows.specs.Row.{words, row_of, row_in, rows_in, spelled, with_row}
-use Rattle.rows.proofs.WordLaws.{Words, value_inj}
+use Rattle.rows.specs.Row.{row_in, rows_in, spelled, with_row}
+use Rattle.rows.proofs.WordLaws.{Words}
 use Rattle.rows.proofs.TableLaws.{rows_at, rows_with, rows_none, rows_spelled}
 use Rattle.refusals.specs.Outcome.{accepted}
 use Rattle.gossip.specs.Gossip.{Walked, fresh, met, visit, ring, round, turns, walk, gossip_refusal, gossip_of, exclusions_left}
 use Rattle.gossip.proofs.RefusalLaws.{gossip_sound}
 use Rattle.gossip.proofs.TurnLaws.{source_last, source_own}
 use Rattle.gossip.proofs.WalkLaws.{visit_passed}
-
--- ---- two rows are the same exactly if their words are
-module _ (a b : Row) (h : Words (words a)) (g : Words (words b)) where
-  pub same_row : (eqb a.w0 b.w0 && (eqb a.w1 b.w1 && (eqb a.w2 b.w2 && eqb a.w3 b.w3))) ≡ eqb (row_of a) (row_of b)
-  same_row = go (ℕ_discrete (row_of a) (row_of b))
-    where
-      word : row_of a ≡ row_of b → (j : ℕ) → get_or (words a) j 0 ≡ get_or (words b) j 0
-      word e j = ap (λ (l : List ℕ). get_or l j 0) (value_inj (words a) (words b) h g refl e)
-
-      row : (eqb a.w0 b.w0 && (eqb a.w1 b.w1 && (eqb a.w2 b.w2 && eqb a.w3 b.w3))) ≡ true → row_of a ≡ row_of b
-      row t =
-          let x = (and-eq-true_iff (eqb a.w0 b.w0) (eqb a.w1 b.w1 && (eqb a.w2 b.w2 && eqb a.w3 b.w3))).0 t in
-          let y = (and-eq-true_iff (eqb a.w1 b.w1) (eqb a.w2 b.w2 && eqb a.w3 b.w3)).0 x.1 in
-          let z = (and-eq-true_iff (eqb a.w2 b.w2) (eqb a.w3 b.w3)).0 y.1 in
-          rw (eqb-true a.w0 b.w0 x.0, eqb-true a.w1 b.w1 y.0, eqb-true a.w2 b.w2 z.0, eqb-true a.w3 b.w3 z.1) refl
-
-      false_if : (t : Bool) → (t ≡ true → ⊥) → t ≡ false
-      false_if true n = absurd (n refl)
-      false_if false n = refl
-
-      go : Dec (row_of a ≡ row_of b) → (eqb a.w0 b.w0 && (eqb a.w1 b.w1 && (eqb a.w2 b.w2 && eqb a.w3 b.w3))) ≡ eqb (row_of a) (row_of b)
-      go (yes e) =
-          rw (eq-eqb a.w0 b.w0 (word e 0), eq-eqb a.w1 b.w1 (word e 1), eq-eqb a.w2 b.w2 (word e 2), eq-eqb a.w3 b.w3 (word e 3)) (sym (eq-eqb (row_of a) (row_of b) e))
-      go (no n) = false_if _ (λ t. n (row t)) ∙ sym (ne_eqb (row_of a) (row_of b) n)
 
 -- ---- `meet`: a is what is then available, k its count
 module _ (d row : ℕ) (w : Walked) (p a k : ℕ) (e : a ≡ bit_or w.available row) (q : k ≡ count a) where

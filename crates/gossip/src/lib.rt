@@ -11,8 +11,8 @@ use bitmap::ReplicaId;
 use refusals::{Refusal, unless};
 use rows::{Row, ShardSet};
 
-// Who asks and which source first sent us the value, how many shards are enough, and the row that each of the population holds; the mask has
-// those alive.
+// Who asks and which source first sent us the value, how many shards are enough, and the row that each of the population holds; the mask
+// has those alive.
 #[derive(Clone, Copy)]
 struct Peers<'a> {
     population: usize,
@@ -29,6 +29,7 @@ struct Peers<'a> {
 
 impl Peers<'_> {
     // The whole walk: once round the ring, and then to the source, unless that is oneself.
+    // Kept as it is: a struct of peers and exclusions is no plainer, as its methods must ensure that the peers stay the same (so below).
     #[tactic(auto, using(crate::proofs::Steps::ends_round, crate::proofs::Steps::ends_source))]
     fn walk(&self, available: Row, exclusions: &mut [u64]) -> Progress
         requires { length exclusions.old ≡ self.now.population * 4 }

@@ -1,6 +1,6 @@
--- What the entries rest on: a part of a local table that is lent, and how the answers come about where nothing refuses. The premises are what a need's
--- record holds. Assumes nothing.
-use mathlib.Core.Path.{◌≡◌, sym, ap, ap₂, subst, ◌∙◌}
+-- What the entries rest on: a part of a local table that is lent, and the answers where nothing refuses. The premises are the fields of a
+-- need's record. Assumes nothing.
+use mathlib.Core.Path.{◌≡◌, refl, sym, ap, subst, ◌∙◌}
 use mathlib.Core.Bool.{Bool}
 use mathlib.Core.List.{List}
 use Prim.Native.Nat.{ℕ, ◌*◌, ◌^◌, ◌≤◌, ◌<◌}
@@ -12,10 +12,10 @@ use Rattle.refusals.specs.Outcome.{accepted}
 use Rattle.refusals.proofs.Outcomes.{ok_outcome}
 use Rattle.rows.specs.Row.{row_in, spelled}
 use Rattle.rows.proofs.TableLaws.{spelled_length}
-use Rattle.coverage.specs.Coverage.{RowsBelow, commits}
+use Rattle.coverage.specs.Coverage.{RowsBelow}
 use Rattle.layout.specs.declared.TotalShards.{TotalShards}
-use Rattle.layout.specs.Layout.{Fit, bound, width_of, rows_of, heard_loads, rows_refusal, rows_written, commits_refusal, layout_commits_of, trial_written}
-use Rattle.layout.proofs.LayoutLaws.{rows_length, heard_length, spelled_below, spelled_commits}
+use Rattle.layout.specs.Layout.{Fit, bound, width_of, rows_of, layout_commits, heard_loads, rows_refusal, rows_written, commits_refusal, layout_commits_of, trial_written}
+use Rattle.layout.proofs.LayoutLaws.{rows_length, heard_length, spelled_below}
 use Rattle.layout.proofs.RefusalLaws.{rows_sound, trial_sound}
 
 -- ---- rows laid in a table of as many
@@ -42,28 +42,26 @@ pub trial_small : (n quorum d : ℕ) (total : TotalShards) (answered loads : ℕ
     → 0 ≡ commits_refusal n quorum d total answered loads faults rows → n ≤ 16
 trial_small n quorum d total answered loads faults rows z = ((trial_sound n quorum d total answered loads faults rows).0 (sym z)).population.1
 
--- where the loads of those that answer were laid
+-- the loads of those that answer, tested, and the table that they are laid in
 module _ (n quorum d : ℕ) (total : TotalShards) (answered : ℕ) (loads faults rows : List ℕ)
     (z : 0 ≡ commits_refusal n quorum d total answered (length loads) faults (length rows))
-    (heard after : List ℕ) (h : heard ≡ heard_loads answered loads) (l : after ≡ front (spelled (rows_of d total heard)) rows) where
-  laid_rows : after ≡ spelled (rows_of d total (heard_loads answered loads))
-  laid_rows =
-      let s = (trial_sound n quorum d total answered (length loads) faults (length rows)).0 (sym z) in
-      l ∙ ap (λ (x : List ℕ). front (spelled (rows_of d total x)) rows) h ∙ whole d total (heard_loads answered loads) rows (omega (arith, heard_length answered loads))
-
-  pub trial_below : (w : ℕ) → w ≡ width_of d total heard → RowsBelow n w (row_in after)
-  trial_below w q =
-      laid_below n d total (heard_loads answered loads) ((trial_sound n quorum d total answered (length loads) faults (length rows)).0 (sym z)).shards w after
-      (q ∙ ap (width_of d total) h) laid_rows
-
-  pub trial_written_is : after ≡ trial_written n quorum d total answered loads faults rows
+    (heard : List ℕ) (h : heard ≡ heard_loads answered loads) where
+  pub trial_laid : (after : List ℕ) → after ≡ spelled (rows_of d total heard) → after ≡ trial_written n quorum d total answered loads faults rows
   unfolding trial_written
-  trial_written_is = rw (sym z) laid_rows
+  trial_laid after l = rw (sym z) (l ∙ ap (λ (x : List ℕ). spelled (rows_of d total x)) h)
 
-  pub trial_says : (w : ℕ) (c : Bool) → w ≡ width_of d total heard → c ≡ commits n quorum d answered (row_in after) faults
-      → accepted (w, c) ≡ layout_commits_of n quorum d total answered loads faults (length rows)
+  pub trial_says : (t : ℕ × Bool) → t ≡ (width_of d total heard, layout_commits n quorum d total answered faults heard)
+      → accepted t ≡ layout_commits_of n quorum d total answered loads faults (length rows)
   unfolding layout_commits_of
-  trial_says w c q t =
-      ok_outcome _ z _ (w, c)
-      (ap₂ (λ (x : ℕ) (y : Bool). (x, y)) (q ∙ ap (width_of d total) h) (t ∙ ap (λ (x : List ℕ). commits n quorum d answered (row_in x) faults) laid_rows
-      ∙ spelled_commits d total (heard_loads answered loads) ((trial_sound n quorum d total answered (length loads) faults (length rows)).0 (sym z)).shards n quorum answered faults))
+  trial_says t e =
+      ok_outcome _ z _ t (e ∙ ap (λ (x : List ℕ). (width_of d total x, layout_commits n quorum d total answered faults x)) h)
+
+-- the same of a table that has the rows at its front
+module _ (n quorum d : ℕ) (total : TotalShards) (answered : ℕ) (loads faults rows : List ℕ) (got : ℕ)
+    (e : got ≡ commits_refusal n quorum d total answered (length loads) faults (length rows)) (z : got ≡ 0)
+    (heard after : List ℕ) (h : heard ≡ heard_loads answered loads) (l : after ≡ front (spelled (rows_of d total heard)) rows) where
+  pub trial_written_is : after ≡ trial_written n quorum d total answered loads faults rows
+  trial_written_is =
+      let s = (trial_sound n quorum d total answered (length loads) faults (length rows)).0 (sym e ∙ z) in
+      trial_laid n quorum d total answered loads faults rows (sym z ∙ e) (heard_loads answered loads) refl after
+      (l ∙ ap (λ (x : List ℕ). front (spelled (rows_of d total x)) rows) h ∙ whole d total (heard_loads answered loads) rows (omega (arith, heard_length answered loads)))

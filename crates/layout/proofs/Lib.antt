@@ -1,4 +1,4 @@
--- How the code comes to what the definitions say, and worked values.
+-- That the code computes what the definitions say, and worked values.
 pub mod Loads
 pub mod Entries
 pub mod Examples

@@ -1,4 +1,4 @@
-// Layouts: the rows that given loads come to, and whether replies from those that answer commit (layout_rows, layout_commits).
+// Layouts: the rows of given loads, and whether replies from those that answer commit (layout_rows, layout_commits).
 #![tactic(auto)]
 
 ghost use Rattle.std.specs.Prelude.{◌≡◌, cond, ◌*◌, ◌≤◌, length};
@@ -88,16 +88,39 @@ pub fn layout_commits(
         rows.len(),
     )?;
     let mut heard = [0usize; 16];
-    heard_loads(answered, loads, &mut heard[..n]);
-    let width = lay(d, total, &heard[..n], rows);
-    let holdings = Holdings {
+    let heard = &mut heard[..n];
+    heard_loads(answered, loads, heard);
+    let rule = CommitRule {
         population: n,
-        width,
-        heard: answered,
-        rows,
+        quorum,
+        data_shards: d,
+        total,
+        faults,
     };
-    let commits = holdings.commits(quorum, d, faults);
-    Ok(Trial { width, commits })
+    Ok(rule.trial(answered, heard, rows))
+}
+
+impl CommitRule<'_> {
+    ghost use Rattle.layout.specs.Rule.{rule_commits};
+
+    // Lays the loads out in the lent table, and tests the layout, where those of the mask answer. In line, since as a call it was slower.
+    #[inline(always)]
+    fn trial(&self, answered: u64, loads: &[usize], rows: &mut [u64]) -> Trial
+        requires a_load_each { length loads.now ≡ self.now.population }
+        requires a_row_each { length rows.old ≡ self.now.population * 4 }
+        ensures answer { tested result ≡ (width_of self.now.data_shards self.now.total loads.now, rule_commits self.now answered loads.now) }
+        ensures words { rows.new ≡ spelled (rows_of self.now.data_shards self.now.total loads.now) }
+    {
+        let width = lay(self.data_shards, self.total, loads, rows);
+        let holdings = Holdings {
+            population: self.population,
+            width,
+            heard: answered,
+            rows,
+        };
+        let commits = holdings.commits(self.quorum, self.data_shards, self.faults);
+        Trial { width, commits }
+    }
 }
 
 // Lays the loads out at the front of the table, and gives the width. A part: the shards have been tested, and there are four words for each
@@ -197,8 +220,9 @@ impl Layout<'_> {
     {
         let mut offset = ShardId(0);
         for (s, k) in self.loads.iter().enumerate() {
-            self.row_at(offset, *k).put(rows, s);
+            let row = self.row_at(offset, *k);
             offset = ShardId(offset.0 + dealt(self.data_shards, *k));
+            row.put(rows, s);
         }
     }
 
@@ -229,8 +253,8 @@ fn heard_loads(answered: u64, loads: &[usize], heard: &mut [usize])
     requires { length heard.old ≡ length loads.now }
     ensures { heard.new ≡ heard_loads answered loads.now }
 {
-    for s in 0..loads.len() {
-        heard[s] = heard_load(answered, loads[s], ReplicaId(s));
+    for (s, load) in heard.iter_mut().enumerate() {
+        *load = heard_load(answered, loads[s], ReplicaId(s));
     }
 }
 

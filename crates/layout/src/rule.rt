@@ -4,7 +4,6 @@ ghost use Rattle.std.specs.Prelude.{◌≡◌, ◌≤◌, length};
 ghost use Rattle.layout.specs.Layout.{Fit, bound};
 
 use crate::TotalShards;
-use coverage::Holdings;
 
 // What a layout has to pass, and how it is laid out: replies from at least a quorum of the population, and d different shards without any
 // one listed fault set.
@@ -23,19 +22,13 @@ impl CommitRule<'_> {
     ghost use Rattle.layout.specs.Rule.{rule_commits};
 
     // Whether the layout of the loads commits, where those of the mask answer.
+    // Kept as it is: a type of a load for each replica is no plainer: its population would have to be equated with the rule's.
     pub fn commits(&self, answered: u64, loads: &[usize]) -> bool
         requires { length loads.now ≡ self.now.population }
         ensures { result ≡ rule_commits self.now answered loads.now }
     {
         let mut rows = [0u64; 64];
         let rows = &mut rows[..self.population * 4];
-        let width = crate::lay(self.data_shards, self.total, loads, rows);
-        let holdings = Holdings {
-            population: self.population,
-            width,
-            heard: answered,
-            rows,
-        };
-        holdings.commits(self.quorum, self.data_shards, self.faults)
+        self.trial(answered, loads, rows).commits
     }
 }

@@ -1,7 +1,7 @@
--- What a layout text that was read gives: the lengths of runs, what a text without a colon comes to, and that the rows are rows. And what the checks let
+-- What a layout text that was read gives: the lengths of runs, the answer for a text without a colon, and that the rows are rows. And what the checks let
 -- through. Assumes nothing.
 use Rattle.std.proofs.Math.Path.{◌≡◌, refl, sym, subst}
-use Rattle.std.proofs.Common.{ap, ◌∙◌, inl, inr, ⊎_elim, div-le_self, arith, length-set, get_or-set_same, get_or-set_other, leb-true, le-leb, eqb-true, eq-eqb, ne_eqb}
+use Rattle.std.proofs.Common.{ap, ◌∙◌, inl, inr, ⊎_elim, div-le_self, arith, length-set, length-take-le, get_or-set_same, get_or-set_other, leb-true, le-leb, eqb-true, eq-eqb, ne_eqb}
 use Rattle.std.specs.Prelude.{◌↔◌, ◌⊎◌, Bool, true, false, cond, ◌&&◌, ◌||◌, List, [], ◌∷◌, ℕ, zero, suc, ◌*◌, ◌%◌, ◌≤◌, ◌<◌, leb, eqb, length, take, get_or, replicate}
 use Rattle.std.proofs.Math.Bool.{and-eq-true_iff}
 use Rattle.std.proofs.Math.Decide.{ℕ_discrete, dec_lt}
@@ -22,8 +22,8 @@ use Rattle.refusals.specs.FirstLaws.{none_holds}
 use Rattle.refusals.specs.Outcome.{Outcome, refused, accepted, checked, outcome, and_then}
 use Rattle.refusals.specs.Limits.{most_shards, is_population, is_shards, is_row, are_rows, is_table}
 use Rattle.refusals.specs.LimitLaws.{AreRows, rows_small, population_means, shards_means}
-use Rattle.numerals.specs.Text.{without, is_text, is_empty, cut, has_byte, before, behind, split}
-use Rattle.numerals.specs.TextLaws.{Ascii, text_means, split_head}
+use Rattle.numerals.specs.Text.{without, is_text, is_empty, is_byte, cut, has_byte, before, behind, split}
+use Rattle.numerals.specs.TextLaws.{Ascii, text_means, cut_le, PartOf, part_head}
 use Rattle.numerals.proofs.ReadLaws.{read_keeps, read_refused}
 use Rattle.numerals.specs.Whole.{is_digits, whole_of, below_of, members_of}
 use Rattle.numerals.proofs.WholeLaws.{below_limit, members_below}
@@ -119,6 +119,10 @@ none_in x (suc k) (b ∷ bs) h = go (eqb b x) h (none_in x k bs)
     go true q ih = q
     go false q ih = ih q
 
+-- the bytes before the first x are the first part
+first_part : (x : ℕ) (s : List ℕ) → PartOf s 0 x (before x s)
+first_part x s = record { part_is = refl; inside = omega (arith, length-take-le (cut x s) s (cut_le (is_byte x) s), cut_le (is_byte x) s) }
+
 module _ (n total : ℕ) (s : List ℕ) (h : has_byte 58 s ≡ false) where
   first_refused : (rows : List ℕ) → segment_in n total rows (before 47 s) ≡ refused LAYOUT
   unfolding segment_in segment_of
@@ -126,14 +130,14 @@ module _ (n total : ℕ) (s : List ℕ) (h : has_byte 58 s ≡ false) where
 
   no_segments : segments_of n total s ≡ refused LAYOUT
   unfolding segments_of
-  no_segments = sym (read_refused (segment_in n total) (replicate n 0) refl (split_head 47 s) (first_refused (replicate n 0)))
+  no_segments = sym (read_refused (segment_in n total) (replicate n 0) refl (part_head (first_part 47 s)) (first_refused (replicate n 0)))
 
 -- runs where there is a length, and otherwise 13
 abbrev pub runs_only : ℕ → ℕ → Outcome ℕ → Outcome (List ℕ)
 runs_only n total (accepted k) = accepted (runs_of n total k)
 runs_only n total (refused k) = refused LAYOUT
 
--- a text without a colon comes to that
+-- that is the answer for a text without a colon
 pub no_colon : (n d total : ℕ) (s : List ℕ) → has_byte 58 s ≡ false → layout_of n d total s ≡ runs_only n total (length_of n d total s)
 unfolding layout_of
 no_colon n d total s h = go (length_of n d total s)

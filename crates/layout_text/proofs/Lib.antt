@@ -1,4 +1,4 @@
--- How the code comes to what the definitions say, and worked values.
+-- Why the code computes what the definitions state, and worked values.
 pub mod Rows
 pub mod Examples
 pub mod LayoutLaws

@@ -2,8 +2,8 @@
 use mathlib.Core.Path.{◌≡◌, sym, ap, subst, ◌∙◌}
 use mathlib.Core.Bool.{true, false}
 use mathlib.Core.List.{List}
-use Prim.Native.Nat.{ℕ, ◌+◌, ◌*◌, ◌/◌, ◌^◌, ◌≤◌, ◌<◌}
-use native.Mathlib.Nat.{le_trans, lt_of_lt_of_le, le_of_eq, le_of_lt, mul-le-mul_right, mul-div-le}
+use Prim.Native.Nat.{ℕ, ◌+◌, ◌*◌, ◌^◌, ◌≤◌, ◌<◌}
+use native.Mathlib.Nat.{lt_of_lt_of_le, le_of_eq}
 use native.Mathlib.Omega.{arith}
 use lib.Bits.{bit_or}
 use lib.ListN.{length, take, drop, get_or, replicate}
@@ -11,7 +11,7 @@ use lib.Pow.{pow_mono}
 use lib.Seq.{take-length}
 use borrow.Author.Tests.{ltb-true, lt-ltb, le-ltb}
 use Rattle.lists.specs.BelowLaws.{each_below_at}
-use Rattle.lists.proofs.BelowLoops.{Filled, filled_none, filled_more, filled_done}
+use Rattle.lists.proofs.BelowLoops.{Filled, filled_none, filled_more}
 use Rattle.bitmap.specs.WidthLaws.{run_below}
 use Rattle.rows.specs.declared.Row.{Row}
 use Rattle.rows.specs.Row.{words, row_of, row_in, with_row, spelled, first_rows}

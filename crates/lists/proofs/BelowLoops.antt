@@ -1,18 +1,18 @@
--- What loops over the numbers below a bound keep: one more number tried, a count, and a list written to the front of another. The premises of a loop's
--- laws are the fields of a need's record, so that `search` finds them: r is what the test's function returned at k, and then what the branch saw.
--- Assumes nothing.
+-- What loops over the numbers below a bound keep, and one list at the front of another. The premises of a
+-- loop's laws are the fields of a need's record, so that `search` finds them: r is what the test's function returned at k, and then what
+-- the branch saw. Assumes nothing.
 use mathlib.Core.Path.{◌≡◌, refl, sym, ap, ◌∙◌}
 use mathlib.Core.Bool.{Bool, true, false, cond}
 use mathlib.Core.List.{List, [], ◌∷◌, ◌++◌, append-nil, append_assoc, foldl, foldl-append}
-use Prim.Native.Nat.{ℕ, zero, suc, ◌+◌, ◌-◌, ◌≤◌, ◌<◌}
-use native.Mathlib.Nat.{le_refl, le_trans, le_of_eq}
+use Prim.Native.Nat.{ℕ, suc, ◌+◌, ◌≤◌, ◌<◌}
+use native.Mathlib.Nat.{le_of_eq}
 use native.Mathlib.Decide.{le_ind}
 use native.Mathlib.Numerals.{add-one}
 use native.Mathlib.Omega.{arith}
 use lib.ListN.{length, take, set, length-set, length-append, length-drop, drop_of_length-le}
 use lib.Seq.{set-append_seam, drop-cons, take_all, take-suc-set}
 use Rattle.std.specs.List.{filter}
-use Rattle.lists.specs.Below.{some_below, those_below, run_from, each_below, front}
+use Rattle.lists.specs.Below.{some_below, each_below, front}
 use Rattle.lists.specs.BelowLaws.{some_below_means}
 use Rattle.lists.specs.ListedLaws.{passing_append}
 
@@ -31,70 +31,6 @@ module _ (xs l : List ℕ) where
   pub front_more : (x c : ℕ) → c ≡ length xs → length xs < length l → set (front xs l) c x ≡ front (xs ++ (x ∷ [])) l
   unfolding front
   front_more x c e h = rw (e, drop-cons l (length xs) 0 h, set-append_seam, length-append, add-one, append_assoc)
-
-module _ (f : ℕ → Bool) where
-  -- ---- a turn
-  pub those_yes : (k : ℕ) → f k ≡ true → those_below f (k + 1) ≡ those_below f k ++ (k ∷ [])
-  unfolding those_below
-  those_yes k e = rw (add-one, e)
-
-  pub those_no : (k : ℕ) → f k ≡ false → those_below f (k + 1) ≡ those_below f k
-  unfolding those_below
-  those_no k e = rw (add-one, e) (append-nil (those_below f k))
-
-  -- ---- with more tried there are not fewer
-  step : (k : ℕ) → length (those_below f k) ≤ length (those_below f (suc k))
-  unfolding those_below
-  step k = simp length-append (omega arith)
-
-  pub those_mono : (i k : ℕ) → i ≤ k → length (those_below f i) ≤ length (those_below f k)
-  those_mono i k h = le_ind (λ (m : ℕ). length (those_below f i) ≤ length (those_below f m)) (le_refl _) (λ m l e. le_trans e (step m)) k h
-
-  -- ---- and no more than were tried
-  pub those_length : (k : ℕ) → length (those_below f k) ≤ k
-  unfolding those_below
-  those_length zero = le_refl zero
-  those_length (suc k) = simp length-append (go (f k) (those_length k))
-    where
-      go : (b : Bool) → length (those_below f k) ≤ k → length (those_below f k) + length (cond b (k ∷ []) []) ≤ suc k
-      go true h = omega arith
-      go false h = omega arith
-
-  -- ---- a loop up to L, which is n: c counts those below k
-  pub count_none : 0 ≡ length (those_below f 0)
-  unfolding those_below
-  count_none = refl
-
-  pub write_none : (l : List ℕ) → l ≡ front (those_below f 0) l
-  unfolding those_below front
-  write_none l = refl
-
-  module _ (c k : ℕ) (counted : c ≡ length (those_below f k)) where
-    pub count_yes : (r : Bool) (d : ℕ) → r ≡ f k → r ≡ true → d ≡ c + 1 → d ≡ length (those_below f (k + 1))
-    count_yes r d q t e = omega (arith, ap length (those_yes k (sym q ∙ t)), length-append (those_below f k) (k ∷ []))
-
-    pub count_no : (r : Bool) (d : ℕ) → r ≡ f k → r ≡ false → d ≡ c → d ≡ length (those_below f (k + 1))
-    count_no r d q t e = omega (arith, ap length (those_no k (sym q ∙ t)))
-
-    -- and writes them to the front of l, which has room for those below n; w is l as written so far
-    module _ (L n : ℕ) (l : List ℕ) (bound : L ≡ n) (all : length (those_below f n) ≤ length l) where
-      pub room : (r : Bool) → k < L → r ≡ f k → r ≡ true → c < length l
-      room r h q t = omega (arith, those_mono (k + 1) n (omega arith), count_yes r (c + 1) q t refl)
-
-      module _ (w : List ℕ) (written : w ≡ front (those_below f k) l) where
-        pub same_length : k ≤ L → length w ≡ length l
-        same_length h = ap length written ∙ front_length (those_below f k) l (omega (arith, those_mono k n (omega arith)))
-
-        pub room_now : (r : Bool) → k < L → r ≡ f k → r ≡ true → c < length w
-        room_now r h q t = omega (arith, room r h q t, same_length (omega arith))
-
-        pub write_yes : (v : List ℕ) (r : Bool) → k < L → r ≡ f k → r ≡ true → v ≡ set w c k → v ≡ front (those_below f (k + 1)) l
-        write_yes v r h q t s =
-            s ∙ ap (λ (x : List ℕ). set x c k) written ∙ front_more (those_below f k) l k c counted (omega (arith, room r h q t))
-            ∙ ap (λ (x : List ℕ). front x l) (sym (those_yes k (sym q ∙ t)))
-
-        pub write_no : (v : List ℕ) (r : Bool) → r ≡ f k → r ≡ false → v ≡ w → v ≡ front (those_below f (k + 1)) l
-        write_no v r q t s = s ∙ written ∙ ap (λ (x : List ℕ). front x l) (sym (those_no k (sym q ∙ t)))
 
 -- ---- a loop up to n that writes f 0, f 1, .. at the places 0, 1, ..: w is the list as written so far
 module _ {A : Type 0} (f : ℕ → A) where
@@ -124,26 +60,6 @@ module _ {A : Type 0} (f : ℕ → A) where
 
       pub filled_done : n ≤ k → w ≡ each_below f n
       filled_done h = sym (take_all n w (le_of_eq filled.1)) ∙ each_done w k filled.2 n filled.0 h
-
--- ---- a loop up to m that goes on while the test passes: what is left of the run ends where the whole does
-module _ (f : ℕ → Bool) (m k : ℕ) where
-  abbrev pub Running : Type 0
-  Running = run_from f (m - k) k ≡ run_from f m 0
-
-  here : k < m → m - k ≡ suc (m - (k + 1))
-  here h = omega arith
-
-  pub run_on : (r : Bool) → k < m → Running → r ≡ f k → r ≡ true → run_from f (m - (k + 1)) (k + 1) ≡ run_from f m 0
-  unfolding run_from
-  run_on r h e q t = rw (add-one) (sym (ap (λ (j : ℕ). run_from f j k) (here h) ∙ rw (sym q ∙ t, add-one)) ∙ e)
-
-  pub run_stop : (r : Bool) → k < m → Running → r ≡ f k → r ≡ false → k ≡ run_from f m 0
-  unfolding run_from
-  run_stop r h e q t = sym (ap (λ (j : ℕ). run_from f j k) (here h) ∙ rw (sym q ∙ t)) ∙ e
-
-  pub run_done : m ≤ k → Running → k ≡ run_from f m 0
-  unfolding run_from
-  run_done h e = let z : m - k ≡ 0 = omega arith in sym (ap (λ (j : ℕ). run_from f j k) z) ∙ e
 
 -- ---- a loop up to n that ends at the first number that passes
 module _ (f : ℕ → Bool) (k : ℕ) where
@@ -180,7 +96,7 @@ module _ {A B : Type 0} (step : B → A → B) (b : B) (t : A → Bool) (f : ℕ
   pub taken_no : (k : ℕ) → t (f k) ≡ false → taken_below (k + 1) ≡ taken_below k
   taken_no k e = rw add-one (next k ∙ rw e)
 
-  -- where no step changes what it has come to, that is what it comes to
+  -- where no step changes what is taken so far, that is all that is taken
   pub taken_still : (k n : ℕ) → k ≤ n → ((x : A) → step (taken_below k) x ≡ taken_below k) → taken_below n ≡ taken_below k
   taken_still k n h still = le_ind (λ (m : ℕ). taken_below m ≡ taken_below k) refl (λ m l e. next m ∙ ap (λ (s : B). foldl step s (filter t (f m ∷ []))) e ∙ one (t (f m)) (f m)) n h
     where

@@ -8,7 +8,7 @@ use mathlib.Core.List.Memᴰ
 use mathlib.Core.List.{List, [], ◌∷◌, foldl, Memᴰ}
 use Rattle.std.proofs.Math.Bool.{true, false}
 use Rattle.std.specs.Prelude.{Option, None, Some}
-use Rattle.lists.specs.OptionLaws.{some-injective, none-ne-some, some-ne-none}
+use Rattle.std.proofs.lemmas.Option.{none-some, same_Some}
 use Prim.Native.Nat.{ℕ, zero, suc, ◌≤◌, ◌<◌}
 use Rattle.std.proofs.Math.Nat.{le_refl}
 use native.Mathlib.Omega.{arith}
@@ -46,7 +46,7 @@ module _ {A : Type 0} (le : A → A → Bool) (total : (x y : A) → le x y ≡ 
     where
       at_most : (c : A) (v : Bool) → le c y ≡ v → cond v (Some c) (Some y) ≡ Some c → le c y ≡ true
       at_most c true q h = q
-      at_most c false q h = let z : y ≡ c = some-injective y c h in absurd (true≢false (sym (total c y q) ∙ ap (λ (u : A). le u c) z ∙ ap (le c) (sym z) ∙ q))
+      at_most c false q h = let z : y ≡ c = same_Some y c h in absurd (true≢false (sym (total c y q) ∙ ap (λ (u : A). le u c) z ∙ ap (le c) (sym z) ∙ q))
 
       moved : (c : A) (v : Bool) → le c x ≡ v → le c y ≡ true → better_by le (cond v (Some c) (Some x)) y ≡ cond v (Some c) (Some x)
       moved c true q h = rw h
@@ -54,7 +54,7 @@ module _ {A : Type 0} (le : A → A → Bool) (total : (x y : A) → le x y ≡ 
 
       go : (v w : Bool) (b : Option A) → cond v (better_by le b y) b ≡ b → cond v (better_by le (cond w (better_by le b x) b) y) (cond w (better_by le b x) b) ≡ cond w (better_by le b x) b
       go false w b h = refl
-      go true w None h = absurd (some-ne-none y h)
+      go true w None h = absurd (none-some y (sym h))
       go true true (Some c) h = moved c (le c x) refl (at_most c (le c y) refl h)
       go true false (Some c) h = h
 
@@ -134,7 +134,7 @@ module _ {A : Type 0} (le : A → A → Bool) (total : (x y : A) → le x y ≡ 
       go ih (inr r) = ih r
 
   ordered_first : (l : List A) (x : A) → Ordered le l → first_that t l ≡ Some x → FirstIn l x
-  ordered_first [] x o e = absurd (none-ne-some x e)
+  ordered_first [] x o e = absurd (none-some x e)
   ordered_first (y ∷ ys) x o e = go (t y) refl (λ q. ordered_first ys x o.1 q) e
     where
       after : FirstIn ys x → t y ≡ false → (z : A) → (z ≡ y) ⊎ Memᴰ z ys → t z ≡ true → le x z ≡ true
@@ -147,7 +147,7 @@ module _ {A : Type 0} (le : A → A → Bool) (total : (x y : A) → le x y ≡ 
 
       go : (b : Bool) → t y ≡ b → (first_that t ys ≡ Some x → FirstIn ys x) → cond b (Some y) (first_that t ys) ≡ Some x → FirstIn (y ∷ ys) x
       go true q ih e =
-          let r : y ≡ x = some-injective y x e in
+          let r : y ≡ x = same_Some y x e in
           record { listed = Memᴰ.head (sym r); passes = ap t (sym r) ∙ q; first = λ z m u. here r z (Memᴰ.cases_cons m) }
       go false q ih e =
           let f = ih e in
@@ -158,7 +158,7 @@ module _ {A : Type 0} (le : A → A → Bool) (total : (x y : A) → le x y ≡ 
   none_passes (x ∷ xs) e y m = go (t x) refl (λ q. none_passes xs q y) e (Memᴰ.cases_cons m)
     where
       go : (b : Bool) → t x ≡ b → (first_that t xs ≡ None → Memᴰ y xs → t y ≡ false) → cond b (Some x) (first_that t xs) ≡ None → (y ≡ x) ⊎ Memᴰ y xs → t y ≡ false
-      go true q ih e h = absurd (some-ne-none x e)
+      go true q ih e h = absurd (none-some x (sym e))
       go false q ih e (inl r) = ap t r ∙ q
       go false q ih e (inr r) = ih e r
 

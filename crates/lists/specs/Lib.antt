@@ -1,6 +1,5 @@
 -- What loops over lists compute, for elements of any type, and what that means.
 pub mod All
-pub mod OptionLaws
 pub mod AllLaws
 pub mod Below
 pub mod BelowLaws

@@ -5,7 +5,7 @@ ghost use Rattle.std.specs.Prelude.{◌≡◌, ◌*◌, ◌^◌, ◌<◌, ◌≤
 ghost use Rattle.lists.specs.Below.{those_below, front};
 ghost use Rattle.marks.specs.Marks.{flagged, with_flag};
 
-// The table, in an array of words that may be longer: a bit past the 2^n is in it, and stands for no set of the n replicas.
+// The table, in an array of words that may be longer: a bit past the 2^n is in it, and is no set of the n replicas.
 #[derive(Drop)]
 pub struct Marks<const WORDS: usize> {
     pub words: [u64; WORDS],
@@ -34,7 +34,7 @@ impl<const WORDS: usize> Marks<WORDS> {
         ensures number { result ≡ 2 ^ self.now.replicas }
         ensures small { result ≤ 65536 }
     {
-        1 << self.replicas
+        sets(self.replicas)
     }
 
     // How many of the words hold the bits of these sets.
@@ -48,12 +48,11 @@ impl<const WORDS: usize> Marks<WORDS> {
 
     // Whether the set m is flagged. A part: the table has a bit for it.
     #[inline]
-    #[tactic(auto, unfolding(crate::specs::Marks::flagged))]
     pub fn has(&self, m: usize) -> bool
         requires { m < 64 * length self.now.words }
         ensures { result ≡ flagged self.now.words m }
     {
-        (self.words[m / 64] >> (m % 64)) % 2 == 1
+        has(&self.words, m)
     }
 
     // Flags the set m. A part, as has.
@@ -67,31 +66,41 @@ impl<const WORDS: usize> Marks<WORDS> {
     }
 
     // How many sets of the replicas are flagged.
+    #[inline]
     pub fn count(&self) -> usize
         ensures { result ≡ length (those_below (flagged self.now.words) (2 ^ self.now.replicas)) }
     {
-        let mut found = 0usize;
-        for m in 0..self.sets() {
-            if self.has(m) {
-                found += 1;
-            }
-        }
-        found
+        count(&self.words, self.replicas)
     }
 
     // Writes the masks of the flagged sets, rising, to the front of `list`, which has room for them.
+    #[inline]
     pub fn write(&self, list: &mut [u64])
         requires { length (those_below (flagged self.now.words) (2 ^ self.now.replicas)) ≤ length list.old }
         ensures { list.new ≡ front (those_below (flagged self.now.words) (2 ^ self.now.replicas)) list.old }
     {
-        let mut i = 0usize;
-        for m in 0..self.sets() {
-            if self.has(m) {
-                list[i] = m as u64;
-                i += 1;
-            }
-        }
+        write(&self.words, self.replicas, list);
     }
+}
+
+// How many sets of n replicas there are.
+#[inline]
+fn sets(n: usize) -> usize
+    requires { n ≤ 16 }
+    ensures number { result ≡ 2 ^ n }
+    ensures small { result ≤ 65536 }
+{
+    1 << n
+}
+
+// Whether a table flags the set m. A part: the table has a bit for it.
+#[inline]
+#[tactic(auto, unfolding(crate::specs::Marks::flagged))]
+pub fn has(table: &[u64], m: usize) -> bool
+    requires { m < 64 * length table.now }
+    ensures { result ≡ flagged table.now m }
+{
+    (table[m / 64] >> (m % 64)) % 2 == 1
 }
 
 // Flags the set m in the words of a table. A part, as has.
@@ -104,4 +113,26 @@ pub fn put(words: &mut [u64], m: usize)
     let k = m / 64;
     let w = bitmap::with_bit(words[k], m % 64);
     words[k] = w;
+}
+
+// How many sets of n replicas a table flags. A part: the table has a bit for each.
+// Kept as it is: here and in write, a struct of a slice is no plainer than the clauses; Marks is that struct of an array.
+pub fn count(table: &[u64], n: usize) -> usize
+    requires few { n ≤ 16 }
+    requires room { 2 ^ n ≤ 64 * length table.now }
+    ensures { result ≡ length (those_below (flagged table.now) (2 ^ n)) }
+{
+    (0..sets(n)).map(|m| usize::from(has(table, m))).sum()
+}
+
+// Writes the masks of the flagged sets, rising, to the front of `list`, which has room for them. A part, as count.
+pub fn write(table: &[u64], n: usize, list: &mut [u64])
+    requires few { n ≤ 16 }
+    requires bits { 2 ^ n ≤ 64 * length table.now }
+    requires room { length (those_below (flagged table.now) (2 ^ n)) ≤ length list.old }
+    ensures { list.new ≡ front (those_below (flagged table.now) (2 ^ n)) list.old }
+{
+    for (i, m) in (0..sets(n)).filter(|m| has(table, *m)).enumerate() {
+        list[i] = m as u64;
+    }
 }

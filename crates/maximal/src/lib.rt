@@ -23,17 +23,25 @@ const LACKING: [u64; 6] = [
 
 // Leaves flagged the maximal members alone of the family that the table flags. First each part of a member is flagged too: after the pass
 // over the replica b those parts are that lack replicas up to b alone.
-pub fn keep<const WORDS: usize>(marks: &mut Marks<WORDS>)
+// Kept as it is: a type of the numbers up to 16 is no plainer: each call would make one, and each use take the number out again.
+pub fn keep(table: &mut [u64], n: usize)
+    requires { n ≤ 16 }
+    ensures { Flags n (is_maximal (flagged table.old) n) table.new }
+{
+    for b in 0..n {
+        spread(table, b);
+    }
+    peel(table, n);
+}
+
+// The same, in the words that hold the sets of the replicas.
+pub fn keep_marks<const WORDS: usize>(marks: &mut Marks<WORDS>)
     ensures flags { Flags marks.old.replicas (is_maximal (flagged marks.old.words) marks.old.replicas) marks.new.words }
     ensures replicas { marks.new.replicas ≡ marks.old.replicas }
 {
     let n = marks.replicas;
     let used = marks.used();
-    let table = &mut marks.words[..used];
-    for b in 0..n {
-        spread(table, b);
-    }
-    peel(table, n);
+    keep(&mut marks.words[..used], n);
 }
 
 // Flags each set too that lacks the replica b, and with it is flagged. It goes upward, so that a word further up is read before it is

@@ -1,9 +1,12 @@
--- What `read_each` says: the first fault from the left decides, and what each step keeps is kept. And one step of it in a loop. Assumes nothing.
+-- What `read_each` says: the first fault from the left decides, and what each step keeps is kept. And one step of it in a loop, and at a part
+-- of a text. Assumes nothing.
 use Rattle.std.proofs.Math.Path.{◌≡◌, refl, sym, ap, subst}
 use Rattle.std.proofs.Common.{◌∙◌, arith}
-use Rattle.std.specs.Prelude.{◌↔◌, ℕ}
+use Rattle.std.specs.Prelude.{◌↔◌, ℕ, ◌+◌, length, drop}
 use mathlib.Core.List.{List, [], ◌∷◌, ◌++◌}
 use Rattle.refusals.specs.Outcome.{Outcome, refused, accepted, and_then}
+use Rattle.numerals.specs.Text.{split}
+use Rattle.numerals.specs.TextLaws.{later, PartOf, part_head, part_last, part_more}
 use Rattle.numerals.specs.Read.{read_each}
 
 -- ---- the first fault
@@ -73,3 +76,16 @@ module _ {A B : Type 0} (step : A → B → Outcome A) (a : A) {W : Outcome A} {
   pub read_ended : ps ≡ [] → accepted a ≡ W
   unfolding read_each
   read_ended h = sym (inv ∙ rw h)
+
+-- ---- the same at a part q of a text, from the byte p on, of the parts between the bytes x
+module _ {A : Type 0} (step : A → List ℕ → Outcome A) (a : A) {W : Outcome A} {p x : ℕ} {s q : List ℕ} (inv : W ≡ read_each step a (split x (drop p s))) (h : PartOf s p x q) where
+  first : W ≡ and_then (step a q) (λ b. read_each step b (later x (drop p s)))
+  unfolding read_each
+  first = inv ∙ rw (part_head h)
+
+  pub read_last : {b : A} → step a q ≡ accepted b → p + length q ≡ length s → accepted b ≡ W
+  unfolding read_each
+  read_last e l = sym (first ∙ rw (e, part_last h l))
+
+  pub read_more : {b : A} → step a q ≡ accepted b → (p + length q ≡ length s → ⊥) → W ≡ read_each step b (split x (drop (p + length q + 1) s))
+  read_more e l = first ∙ rw (e, part_more h l)

@@ -127,7 +127,7 @@ without_kept p [] h e = absurd (omega arith)
 without_kept p (b ∷ bs) h e = rw e
 
 -- ---- a whole number: v is what the digits before i spell
--- what the digits that are left come to
+-- the number that v and the digits that are left spell, if it is at most 255
 unfoldable pub capped : ℕ → List ℕ → Outcome ℕ
 capped v s = cond (list_all is_digit s && leb (spelt v s) 255) (accepted (spelt v s)) (refused NUMERAL)
 

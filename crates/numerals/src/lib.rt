@@ -54,6 +54,7 @@ pub fn read_below(s: &[u8], limit: usize) -> Result<usize, Refusal>
 }
 
 // The numbers between commas, each below the limit, as a mask. A part: a word has room for numbers below 64.
+// Kept as it is: a closure in the place of `trims` is no plainer, since the definition has the flag.
 pub fn read_members(s: &[u8], trims: bool, limit: usize) -> Result<u64, Refusal>
     requires { limit ≤ 64 }
     ensures { outcome_of result ≡ members_of trims limit s.now }
@@ -115,6 +116,7 @@ pub fn is_blank(b: u8) -> bool
 }
 
 // Whether s and t are the same bytes.
+// Kept as it is: its contract says what == of two texts is, so that no caller proves it.
 pub fn same(s: &[u8], t: &[u8]) -> bool
     ensures { result ≡ is_same s.now t.now }
 {
@@ -172,7 +174,7 @@ pub fn part(s: &[u8], p: usize, x: u8) -> &[u8]
     upto(rest, find(rest, x))
 }
 
-// Where the first x of s stands, or the length of s: past the blocks of 16 bytes that have none.
+// The place of the first x of s, or the length of s: past the blocks of 16 bytes that have none.
 pub fn find(s: &[u8], x: u8) -> usize
     ensures { result ≡ cut x s.now }
 {
@@ -194,6 +196,7 @@ fn place(s: &[u8], x: u8) -> usize
 }
 
 // Whether x is one of the bytes. It ends at none of them early, so that all are compared at once.
+// Kept as it is: any was tried: in a Rust copy of find it takes 7 times as long over 4,096 bytes, since it compares one byte at a time.
 fn has(block: &[u8; 16], x: u8) -> bool
     ensures { result ≡ has_byte x block.now }
 {
@@ -204,7 +207,7 @@ fn has(block: &[u8; 16], x: u8) -> bool
     hit
 }
 
-// s from a on. What a part is as a list is said here, in `upto` and in `past`.
+// s from a on. What a part is as a list is stated here, in `upto` and in `past`.
 pub fn after(s: &[u8], a: usize) -> &[u8]
     requires { a ≤ length s.now }
     ensures { result.now ≡ drop a s.now }
@@ -256,6 +259,7 @@ fn unplussed(s: &[u8]) -> &[u8]
 }
 
 // Whether every byte of s is below 128. It ends at none of them early, so that many are compared at once.
+// Kept as it is: all was tried: in a Rust copy it takes 18 times as long over 4,096 bytes, since it compares one byte at a time.
 fn all_ascii(s: &[u8]) -> bool
     ensures { result ≡ list_all is_ascii s.now }
 {

@@ -32,17 +32,18 @@ impl<'a> From<io::Error> for Stop<'a> {
 }
 
 // Prints the plan of a description, or what is wrong with it.
-pub fn plan(rt: &impl Print, description: Description<'_>) -> io::Result<()> {
-    match steps(rt, description) {
+pub fn plan(out: &impl Print, description: Description<'_>) -> io::Result<()> {
+    match steps(out, description) {
         Ok(()) => Ok(()),
-        Err(Stop::Problem(problem)) => problem.print(rt),
+        Err(Stop::Problem(problem)) => problem.print(out),
         Err(Stop::Output(error)) => Err(error),
     }
 }
 
-fn steps<'a>(rt: &impl Print, description: Description<'a>) -> Result<(), Stop<'a>> {
+fn steps<'a>(out: &impl Print, description: Description<'a>) -> Result<(), Stop<'a>> {
     site_check::check_lines(description)?;
-    if !site_check::is_complete(rt, description)? {
+    if !site_check::is_complete(description) {
+        site_check::print_missing(out, description)?;
         return Ok(());
     }
     let refused = |refusal| Problem::refused(description, refusal);
@@ -54,23 +55,23 @@ fn steps<'a>(rt: &impl Print, description: Description<'a>) -> Result<(), Stop<'
     let mut list = [0u64; MOST_SETS];
     let k = faults::fault_list(n, f, profile, &mut list).map_err(&refused)?;
     let sets = &list[..k.min(MOST_SETS)];
-    print_sets(rt, sets)?;
+    print_sets(out, sets)?;
     site_check::check_peers(description, n)?;
     let mut rows = [0u64; 64];
     let words = n.min(16) * 4;
-    pick(rt, description, n, profile, sets, &mut rows[..words])
+    pick(out, description, n, profile, sets, &mut rows[..words])
 }
 
-fn print_sets(rt: &impl Print, sets: &[u64]) -> io::Result<()> {
-    println!(rt; "fault sets {}", sets.len())?;
+fn print_sets(out: &impl Print, sets: &[u64]) -> io::Result<()> {
+    println!(out; "fault sets {}", sets.len())?;
     for set in sets {
-        println!(rt; "  {}", Members(*set))?;
+        println!(out; "  {}", Members(*set))?;
     }
     Ok(())
 }
 
 fn pick<'a>(
-    rt: &impl Print,
+    out: &impl Print,
     description: Description<'a>,
     n: usize,
     profile: Profile,
@@ -96,18 +97,18 @@ fn pick<'a>(
     .map_err(&refused)?;
     let width = match plan {
         Some(Plan { time, width }) => {
-            println!(rt; "plan")?;
-            println!(rt; "  time {}", Milliseconds(time))?;
+            println!(out; "plan")?;
+            println!(out; "  time {}", Milliseconds(time))?;
             width
         }
         None => {
-            println!(rt; "none: at no time does a layout commit")?;
+            println!(out; "none: at no time does a layout commit")?;
             let width = assignment::full_copies(n, d, total, rows).map_err(&refused)?;
-            println!(rt; "full copies")?;
+            println!(out; "full copies")?;
             width
         }
     };
-    print!(rt; "{}", Layout { own, width, rows })?;
+    print!(out; "{}", Layout { own, width, rows })?;
     Ok(())
 }
 

@@ -1,8 +1,39 @@
 // How the programs print the library's values.
 #![tactic(auto)]
 
+ghost use Rattle.std.specs.Prelude.{IsOk};
+
 use rows::{Row, ShardId, ShardSet};
-use std::fmt;
+use std::fmt::Display;
+use std::{fmt, io};
+
+// Prints by P, and passes over what cannot be written: no print fails, and the next one is tried as well.
+#[derive(Clone, Copy)]
+pub struct BestEffort<'a, P>(pub &'a P);
+
+impl<P: Print> Print for BestEffort<'_, P> {
+    // Kept as it is: one function for the three is no plainer, since std's trait asks for each and each calls the same one of P.
+    fn print<D: Display + Drop>(&self, value: D) -> io::Result<()>
+        ensures { IsOk result }
+    {
+        let _ = self.0.print(value);
+        Ok(())
+    }
+
+    fn println<D: Display + Drop>(&self, value: D) -> io::Result<()>
+        ensures { IsOk result }
+    {
+        let _ = self.0.println(value);
+        Ok(())
+    }
+
+    fn write_all(&self, bytes: &[u8]) -> io::Result<()>
+        ensures { IsOk result }
+    {
+        let _ = self.0.write_all(bytes);
+        Ok(())
+    }
+}
 
 // The replicas of a mask, rising, with a comma between two of them; `none` if there is none.
 #[derive(Clone, Copy)]

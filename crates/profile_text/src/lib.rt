@@ -137,15 +137,15 @@ fn read_decimals(s: &[u8]) -> Result<Decimals, Refusal>
 }
 
 // One decimal more.
+// Kept as it is: `values.get_mut(count)` was tried, and did not prove: its contract does not say what the write leaves in the array.
 fn push(list: &mut Decimals, x: f64)
     requires { list.old.count + 1 < 2 ^ 64 }
     ensures { (ps : List Float) → list.old ≡ listed ps → list.new ≡ listed (ps ++ (x ∷ [])) }
 {
-    let k = list.count;
-    list.count = k + 1;
-    if k < 16 {
-        list.values[k] = x;
+    if list.count < 16 {
+        list.values[list.count] = x;
     }
+    list.count += 1;
 }
 
 // A threshold; blank means 1e-3.

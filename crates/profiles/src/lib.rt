@@ -13,7 +13,7 @@ use bitmap::ReplicaId;
 use refusals::{Refusal, unless};
 
 // A parsed profile. A domain is a mask of replicas; with prob_count 0 there are no probabilities.
-// Kept as it is: the C interface hands a profile over in fixed memory, with the counts beside the two arrays.
+// Kept as it is: rules of the project: no heap, fixed memory, and this form by name (a struct by value of arrays, threshold, flag, masks).
 #[derive(Clone, Copy)]
 pub struct Profile {
     pub domain_count: usize,

@@ -1,5 +1,5 @@
--- What a range check and a check that went on say. The premises are what a goal's record holds: `search ranges` proves each return of a range
--- check. Assumes nothing.
+-- What a range check and a check that went on say. The premises are what a goal's record holds: `search ranges` proves each return of a
+-- range check. Assumes nothing.
 use mathlib.Core.Path.{◌≡◌, refl, sym, ap, ◌∙◌}
 use mathlib.Core.Bool.{Bool, true, false, cond, ◌&&◌}
 use Prim.Native.Nat.{ℕ, ◌+◌, ◌≤◌, ◌<◌}

@@ -1,4 +1,4 @@
--- How an entry that asks a check first comes to its outcome: what it answers where that refuses, and where it does not. Assumes nothing.
+-- The outcome of an entry that calls a check first: what it returns where the check refuses, and where it does not. Assumes nothing.
 use mathlib.Core.Path.{◌≡◌, refl, sym, ap, ◌∙◌}
 use Prim.Native.Nat.{ℕ, zero, suc, ◌<◌}
 use native.Mathlib.Omega.{arith}

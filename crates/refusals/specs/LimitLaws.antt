@@ -71,7 +71,7 @@ fault_set_means n f = (
   λ e.
       let p = (and-eq-true_iff (is_mask n f) (not (eqb f (all_below n)))).0 e in (
         (below_means n f).0 p.0,
-        λ list_all. eqb-false f (all_below n) (not-true (eqb f (all_below n)) p.1) (full n f (ltb-true f (2 ^ n) p.0) list_all),
+        λ every. eqb-false f (all_below n) (not-true (eqb f (all_below n)) p.1) (full n f (ltb-true f (2 ^ n) p.0) every),
       ),
   λ h.
       (and-eq-true_iff (is_mask n f) (not (eqb f (all_below n)))).1 (

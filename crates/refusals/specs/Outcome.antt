@@ -1,4 +1,4 @@
--- What an entry comes to: the number that refuses, alone, or a value. Assumes nothing.
+-- The outcome of an entry: the number that refuses, alone, or a value. Assumes nothing.
 use Rattle.std.specs.Prelude.{ℕ, zero, suc}
 
 pub data Outcome (A : Type 0) : Type 0 where
@@ -6,7 +6,7 @@ pub data Outcome (A : Type 0) : Type 0 where
   accepted : A → Outcome A
 
 module _ {A : Type 0} where
-  -- of the number that refuses, or 0, and of what an unrefused input comes to
+  -- of the number that refuses, or 0, and of the value of an unrefused input
   abbrev pub checked : ℕ → Outcome A → Outcome A
   checked zero o = o
   checked (suc k) o = refused (suc k)

@@ -3,7 +3,7 @@ use Rattle.std.specs.Prelude.{◌≡◌, refl, ◌↔◌, ℕ, zero, suc}
 use Rattle.std.proofs.Common.{sym, ap, arith}
 use Rattle.refusals.specs.Outcome.{Outcome, refused, accepted, checked, outcome}
 
--- an input is accepted with the value b exactly if no number refuses it and it then comes to b
+-- an input is accepted with the value b exactly if no number refuses it and its value is b
 pub checked_means : {A : Type 0} (k : ℕ) (o : Outcome A) (b : A) → (checked k o ≡ accepted b) ↔ ((k ≡ 0) × (o ≡ accepted b))
 checked_means zero o b = (λ e. (refl, e), λ h. h.1)
 checked_means (suc k) o b = (λ e. let z : ◌≡◌ {A = ℕ} 0 1 = cc in absurd (omega arith), λ h. absurd (omega arith))

@@ -1,4 +1,4 @@
--- The refusals of the code by their numbers, and what a check's result and an entry's come to. Assumes nothing.
+-- The refusals of the code by their numbers, a check's result as a number, and an entry's as an outcome. Assumes nothing.
 use Rattle.std.specs.Prelude.{ℕ, Result, Ok, Err}
 use Rattle.refusals.specs.Numbers as N
 use Rattle.refusals.specs.Outcome.{Outcome, refused, accepted}

@@ -21,7 +21,7 @@ pub enum Refusal {
     Population = 1,
     // The fault tolerance.
     Tolerance = 2,
-    // The own, a peer's or the source's number is not below the population.
+    // A replica's number, be it our own, a peer's or the source's, is not below the population.
     Replica = 3,
     // The data shards or the width.
     Shards = 4,
@@ -65,6 +65,7 @@ impl Refusal {
     ghost use Rattle.refusals.specs.Refused.{number_of};
 
     // The number of the case.
+    // Kept as it is: From is no plainer, since u8::from(refusal) does not say that it is the number.
     pub fn number(self) -> u8
         ensures { result ≡ number_of self }
     {
@@ -152,6 +153,7 @@ pub fn is_overfull(own: ReplicaId, p: ReplicaId, bytes: u64) -> bool
 }
 
 // Whether to none of the peers are too many bytes in flight: of each replica `bytes` gives those in flight to it.
+// Kept as it is: all is no plainer: as bytes may be called below n alone, its closure needs a requires and an ensures of its own.
 pub fn peers_fit<F: Fn(usize) -> u64>(n: usize, own: ReplicaId, bytes: F) -> bool
     requires { (p : ℕ) → p < n → F.pre bytes p }
     ensures { (in_flight : ℕ → ℕ) → GivesBelow (F.post bytes) n in_flight → result ≡ peers_fit n own.0 in_flight }
@@ -186,6 +188,7 @@ pub fn are_rows(w: usize, table: &[u64]) -> bool
 }
 
 // The words of a table of n rows, four words a row.
+// Kept as it is: is_records of c_types, which lies above, is no plainer: it takes the words of a replica, and asks that they are not 0.
 pub fn is_table(n: usize, words: usize) -> bool
     ensures { result ≡ is_table n words }
 {

@@ -49,6 +49,17 @@ module _ (a b : Row) (h : Words (words a)) (g : Words (words b)) where
       go (yes e) = eq-eqb a.w3 b.w3 e ∙ sym (eq-eqb (row_of a) (row_of b) (rw (p, q, r, e) refl))
       go (no n) = ne_eqb a.w3 b.w3 n ∙ differs 3 n
 
+  -- what == of two rows is
+  pub same_row : (eqb a.w0 b.w0 && (eqb a.w1 b.w1 && (eqb a.w2 b.w2 && eqb a.w3 b.w3))) ≡ eqb (row_of a) (row_of b)
+  same_row = go (ℕ_discrete a.w0 b.w0) (ℕ_discrete a.w1 b.w1) (ℕ_discrete a.w2 b.w2)
+    where
+      go : Dec (a.w0 ≡ b.w0) → Dec (a.w1 ≡ b.w1) → Dec (a.w2 ≡ b.w2)
+          → (eqb a.w0 b.w0 && (eqb a.w1 b.w1 && (eqb a.w2 b.w2 && eqb a.w3 b.w3))) ≡ eqb (row_of a) (row_of b)
+      go (yes p) (yes q) (yes r) = rw (eq-eqb a.w0 b.w0 p, eq-eqb a.w1 b.w1 q, eq-eqb a.w2 b.w2 r) (agrees p q r)
+      go (yes p) (yes q) (no n) = rw (eq-eqb a.w0 b.w0 p, eq-eqb a.w1 b.w1 q, ne_eqb a.w2 b.w2 n) (differs 2 n)
+      go (yes p) (no n) r = rw (eq-eqb a.w0 b.w0 p, ne_eqb a.w1 b.w1 n) (differs 1 n)
+      go (no n) q r = rw (ne_eqb a.w0 b.w0 n) (differs 0 n)
+
 -- ---- one member
 pub run_one : (s : ℕ) → run s 1 ≡ 2 ^ s
 unfolding gather

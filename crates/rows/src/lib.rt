@@ -192,7 +192,7 @@ impl ShardSet for Row {
     }
 
     // Up to a width of 64 the first word has them all.
-    #[inline]
+    #[inline(always)]
     fn run_modulo(from: ShardId, k: usize, w: usize) -> Row {
         if w <= 64 {
             return u64::run_modulo(from, k, w).row();
@@ -242,6 +242,7 @@ impl Row {
     }
 
     // Writes the row of the replica s into a table. A part: the table has it.
+    // Kept as it is: a struct of table and replica is no plainer than the clause, since each use would make one for one call.
     pub fn put(self, rows: &mut [u64], s: usize)
         requires { s * 4 + 4 ≤ length rows.old }
         ensures { rows.new ≡ with_row rows.old s (row_of self) }
@@ -267,23 +268,17 @@ impl Row {
     fn word(self, j: usize) -> u64
         ensures { result ≡ get_or (words self) j 0 }
     {
-        if j == 0 {
-            return self.w0;
+        match j {
+            0 => self.w0,
+            1 => self.w1,
+            2 => self.w2,
+            3 => self.w3,
+            _ => 0,
         }
-        if j == 1 {
-            return self.w1;
-        }
-        if j == 2 {
-            return self.w2;
-        }
-        if j == 3 {
-            return self.w3;
-        }
-        0
     }
 }
 
-// The same, of all four words.
+// The k shards from a on. A part: a row has room for them.
 fn run_across(a: usize, k: usize) -> Row
     requires { a + k ≤ 256 }
     ensures { row_of result ≡ run a k }
@@ -300,7 +295,8 @@ fn run_across(a: usize, k: usize) -> Row
     Row { w0, w1, w2, w3 }
 }
 
-// The same, of all four words.
+// The k shards from `from` on, each modulo w. A part: k is at most w, for which a row has room.
+// Kept as it is: bitmap lies below the trait and has the same of a word; one over the trait would serve the row alone.
 fn run_modulo_across(from: usize, k: usize, w: usize) -> Row
     requires { (0 < w) × (w ≤ 256) × (k ≤ w) }
     ensures { row_of result ≡ run_modulo w from k }

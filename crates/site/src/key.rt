@@ -1,4 +1,5 @@
 // The keys of a description.
+use crate::Unknown;
 use std::fmt;
 
 #[derive(Clone, Copy, Debug, PartialEq, Eq)]
@@ -14,10 +15,6 @@ pub enum Key {
     Profile,
     Peer,
 }
-
-// A word that is no key.
-#[derive(Clone, Copy, Debug, PartialEq, Eq)]
-pub struct UnknownKey;
 
 impl Key {
     // Those that every description has once: all but `peer`.
@@ -35,9 +32,9 @@ impl Key {
 }
 
 impl<'a> TryFrom<&'a [u8]> for Key {
-    type Error = UnknownKey;
+    type Error = Unknown;
 
-    fn try_from(word: &'a [u8]) -> Result<Self, UnknownKey> {
+    fn try_from(word: &'a [u8]) -> Result<Self, Unknown> {
         match word {
             b"population" => Ok(Key::Population),
             b"own" => Ok(Key::Own),
@@ -49,7 +46,7 @@ impl<'a> TryFrom<&'a [u8]> for Key {
             b"penalty" => Ok(Key::Penalty),
             b"profile" => Ok(Key::Profile),
             b"peer" => Ok(Key::Peer),
-            _ => Err(UnknownKey),
+            _ => Err(Unknown),
         }
     }
 }

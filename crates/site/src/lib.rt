@@ -1,5 +1,4 @@
-// The description of a site: a line for each key, with its value. `#` begins a comment; blank lines say nothing. The keys stand in any
-// order.
+// The description of a site: a line for each key, in any order, with its value. `#` begins a comment; blank lines are ignored.
 //
 //     population N    own N    tolerance N    quorum N    data-shards N    size N
 //     width exactly N, or width at most N
@@ -7,24 +6,29 @@
 //     profile TEXT
 //     peer N slope X delay X jitter X in-flight N downtime X, or peer N silent, or peer N silent in-flight N
 //
-// N is a whole number, X a decimal; the names after a peer's number stand in any order. What is read here is in no contract: the entries
-// check it for themselves.
+// N is a whole number, X a decimal; a peer's names may be in any order. What is read is in no contract: the entries check it.
 #![tactic(auto)]
 
 ghost use Rattle.std.specs.Prelude.{length};
 ghost use Rattle.std.specs.Iterator.{at_most};
+ghost use Rattle.std.specs.Iterator.Adapters.{zip_first};
 
 use layout::TotalShards;
+use std::iter::Zip;
 use std::ops::RangeInclusive;
 
 mod key;
 mod peer;
 
-pub use key::{Key, UnknownKey};
-pub use peer::{Name, PeerText, UnknownName};
+pub use key::Key;
+pub use peer::{Name, PeerText};
 
 // A number above this one has no room for another digit.
 const MOST: u64 = 1_000_000_000_000_000_000;
+
+// A word that is not among those of an enum.
+#[derive(Clone, Copy, Debug, PartialEq, Eq)]
+pub struct Unknown;
 
 // The text of a description.
 #[derive(Clone, Copy)]
@@ -32,10 +36,7 @@ pub struct Description<'a>(pub &'a [u8]);
 
 impl<'a> Description<'a> {
     pub fn lines(self) -> Lines<'a> {
-        Lines {
-            parts: numerals::split(self.0, b'\n'),
-            number: 0,
-        }
+        Lines(numerals::split(self.0, b'\n').zip(1..=u64::MAX))
     }
 
     // The first line of a key.
@@ -48,7 +49,7 @@ impl<'a> Description<'a> {
         self.lines().find(|line| line.is_of_peer(&peers))
     }
 
-    // What the first line of a key says after it; empty if there is none.
+    // The value of the first line of a key; empty if there is none.
     pub fn value_of(self, key: Key) -> &'a [u8] {
         match self.first(key) {
             None => &self.0[..0],
@@ -87,7 +88,7 @@ pub struct Line<'a> {
 
 impl<'a> Line<'a> {
     // What its first word means.
-    pub fn key(self) -> Result<Key, UnknownKey> {
+    pub fn key(self) -> Result<Key, Unknown> {
         Key::try_from(self.first_word())
     }
 
@@ -95,12 +96,12 @@ impl<'a> Line<'a> {
         word(self.said, 0)
     }
 
-    // What it says after its first word.
+    // The text after its first word.
     pub fn value(self) -> &'a [u8] {
         after_word(self.said)
     }
 
-    // What it says of a peer, where its key is `peer`.
+    // Its value as the text of a peer, where its key is `peer`.
     pub fn peer(self) -> PeerText<'a> {
         PeerText(self.value())
     }
@@ -111,24 +112,20 @@ impl<'a> Line<'a> {
     }
 }
 
-// The lines of a description that are left, and the number of the one before them.
+// The lines of a description that are left, each as its text and its number.
 #[derive(Drop)]
-pub struct Lines<'a> {
-    parts: numerals::Parts<'a>,
-    number: u64,
-}
+pub struct Lines<'a>(Zip<numerals::Parts<'a>, RangeInclusive<u64>>);
 
 impl<'a> Iterator for Lines<'a> {
     type Item = Line<'a>;
 
-    ghost remaining = { λ lines. at_most (length lines.parts) };
+    ghost remaining = { λ lines. at_most (length (zip_first lines.0)) };
 
     fn next(&mut self) -> Option<Line<'a>> {
-        let part = self.parts.next()?;
-        self.number = self.number.wrapping_add(1);
+        let (text, number) = self.0.next()?;
         Some(Line {
-            number: self.number,
-            said: without_comment(part),
+            number,
+            said: without_comment(text),
         })
     }
 }

@@ -1,7 +1,7 @@
-// What a line says of a peer.
+// The text of a peer's line.
 ghost use Rattle.std.specs.Prelude.{◌≤◌, IfSome};
 
-use crate::{number, word};
+use crate::{Unknown, number, word};
 use std::fmt;
 
 // The names that a heard peer has, each with its value after it.
@@ -14,21 +14,17 @@ pub enum Name {
     Downtime,
 }
 
-// A word that is no name.
-#[derive(Clone, Copy, Debug, PartialEq, Eq)]
-pub struct UnknownName;
-
 impl<'a> TryFrom<&'a [u8]> for Name {
-    type Error = UnknownName;
+    type Error = Unknown;
 
-    fn try_from(word: &'a [u8]) -> Result<Self, UnknownName> {
+    fn try_from(word: &'a [u8]) -> Result<Self, Unknown> {
         match word {
             b"slope" => Ok(Name::Slope),
             b"delay" => Ok(Name::Delay),
             b"jitter" => Ok(Name::Jitter),
             b"in-flight" => Ok(Name::InFlight),
             b"downtime" => Ok(Name::Downtime),
-            _ => Err(UnknownName),
+            _ => Err(Unknown),
         }
     }
 }
@@ -45,8 +41,7 @@ impl fmt::Display for Name {
     }
 }
 
-// The text after the key. Word 0 is the peer's number; a silent peer has `silent` next, and may have in-flight after it; a heard one has a
-// name at each odd place and its value after it.
+// The text after the key: the peer's number, then `silent` if it is, then names with a value after each (of a silent one in-flight alone).
 #[derive(Clone, Copy)]
 pub struct PeerText<'a>(pub &'a [u8]);
 
@@ -72,7 +67,7 @@ impl<'a> PeerText<'a> {
             .find(|k| Name::try_from(word(self.0, *k)) == Ok(name))
     }
 
-    // The first word that is no name where one should stand, or is a name that stands before it.
+    // The first word in the place of a name that is none, that this peer may not have, or that is there a second time.
     pub fn stranger(self) -> Option<&'a [u8]> {
         let k = (self.first_place()..13)
             .step_by(2)

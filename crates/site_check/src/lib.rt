@@ -1,9 +1,9 @@
-// What is wrong with a description of a site: the first line that is none, the keys that are missing, or the refusal and the line that it
-// concerns.
+// What is wrong with a description of a site: a malformed line, missing keys, or a refusal and the line that it concerns.
 #![tactic(auto)]
 
 use refusals::Refusal;
 use site::{Description, Key, Line, Name, PeerText};
+use std::ops::Range;
 use std::{fmt, io};
 
 // What is wrong, which ends a plan.
@@ -68,7 +68,7 @@ impl<'a> Problem<'a> {
         }
     }
 
-    // A description is bytes that need not be text.
+    // Kept as it is: Display is no plainer, since a description is bytes that need not be text, which no Formatter takes.
     pub fn print(self, rt: &impl Print) -> io::Result<()> {
         match self {
             Problem::Wrong {
@@ -81,7 +81,7 @@ impl<'a> Problem<'a> {
                 println!(rt; "")
             }
             Problem::Refused { refusal, line } => {
-                println!(rt; "refused {}: {}", refusal.number(), meaning(refusal))?;
+                println!(rt; "refused {}: {}", refusal.number(), Meaning(refusal))?;
                 match line {
                     None => Ok(()),
                     Some(line) => {
@@ -97,7 +97,7 @@ impl<'a> Problem<'a> {
 
 // ---- the lines, from the first on
 
-// Checks that each line has a key that is known and stands on no line before it, and a value that can be read.
+// Checks that each line has a known key, which no line before it has, and a value that can be read.
 pub fn check_lines(description: Description<'_>) -> Result<(), Problem<'_>> {
     for line in description.lines() {
         check_line(description, line)?;
@@ -203,34 +203,43 @@ pub fn check_peers(description: Description<'_>, n: usize) -> Result<(), Problem
 
 // ---- what is missing
 
-// Whether every key is there, and a line for every peer. Prints what is not.
-pub fn is_complete(rt: &impl Print, description: Description<'_>) -> io::Result<bool> {
-    let mut complete = true;
-    for key in Key::ONCE {
-        if description.first(key).is_none() {
-            println!(rt; "missing: {key}")?;
-            complete = false;
-        }
-    }
-    let peers = has_peers(rt, description)?;
-    Ok(complete && peers)
+// Whether every key is there, and a line for every peer.
+pub fn is_complete(description: Description<'_>) -> bool {
+    Key::ONCE.iter().all(|key| has(description, *key))
+        && peers(description).all(|p| has_peer(description, p))
 }
 
-// How many there are is not known where the population is missing or too large, nor which where our own number is.
-fn has_peers(rt: &impl Print, description: Description<'_>) -> io::Result<bool> {
-    let n = description.number_of(Key::Population);
-    if description.first(Key::Own).is_none() || 16 < n {
-        return Ok(true);
-    }
-    let own = description.number_of(Key::Own);
-    let mut complete = true;
-    for p in 0..n {
-        if p != own && description.peer(p).is_none() {
-            println!(rt; "missing: peer {p}")?;
-            complete = false;
+// Prints each key and each peer that is missing.
+pub fn print_missing(rt: &impl Print, description: Description<'_>) -> io::Result<()> {
+    for key in Key::ONCE {
+        if !has(description, key) {
+            println!(rt; "missing: {key}")?;
         }
     }
-    Ok(complete)
+    for p in peers(description) {
+        if !has_peer(description, p) {
+            println!(rt; "missing: peer {p}")?;
+        }
+    }
+    Ok(())
+}
+
+fn has(description: Description<'_>, key: Key) -> bool {
+    description.first(key).is_some()
+}
+
+// The replicas to look for; none where the population or our own number is missing, or the population is too large.
+fn peers(description: Description<'_>) -> Range<u64> {
+    let n = description.number_of(Key::Population);
+    if !has(description, Key::Own) || 16 < n {
+        return 0..0;
+    }
+    0..n
+}
+
+// Whether a replica has a line. Our own needs none.
+fn has_peer(description: Description<'_>, p: u64) -> bool {
+    p == description.number_of(Key::Own) || description.peer(p).is_some()
 }
 
 // ---- refusals
@@ -283,27 +292,34 @@ fn is_overfull(description: Description<'_>, p: u64) -> bool {
     !refusals::is_in_flight(bytes)
 }
 
-fn meaning(refusal: Refusal) -> &'static str {
-    match refusal {
-        Refusal::Population => "the population is not 1 to 16",
-        Refusal::Tolerance => "the tolerance is not 0 to the population less 1",
-        Refusal::Replica => "a replica's number is not below the population",
-        Refusal::Shards =>
-            "the data shards are not 1 to 255, or the width is not between them and 255",
-        Refusal::Quorum => "the quorum is not 1 to the population",
-        Refusal::Text => "the profile is longer than 4096 bytes, or has a byte above 127",
-        Refusal::Numeral => "a malformed number, or one above 255 in the profile",
-        Refusal::Digits => {
-            "a decimal of more than 15 digits, more than 4 in its exponent, or a power of ten outside -22 to 22"
-        }
-        Refusal::Member => "a replica's number in the profile is not below the population",
-        Refusal::Mechanism => "the profile has an unknown mechanism",
-        Refusal::Probabilities => {
-            "the probabilities are not one for each replica, each 0 to 1, with a threshold above 0 and at most 1"
-        }
-        Refusal::Domains => "the profile has more than 64 domains",
-        Refusal::Bytes => "the size is above 2^30 bytes, or more than 2^40 are in flight to a peer",
-        Refusal::EveryReplica => "the profile has all replicas fail together",
-        _ => "no plan can be made",
+// What a refusal means for a description.
+#[derive(Clone, Copy)]
+struct Meaning(Refusal);
+
+impl fmt::Display for Meaning {
+    fn fmt<W: fmt::Write>(&self, f: &mut fmt::Formatter<W>) -> fmt::Result {
+        f.write_str(match self.0 {
+            Refusal::Population => "the population is not 1 to 16",
+            Refusal::Tolerance => "the tolerance is not 0 to the population less 1",
+            Refusal::Replica => "a replica's number is not below the population",
+            Refusal::Shards =>
+                "the data shards are not 1 to 255, or the width is not between them and 255",
+            Refusal::Quorum => "the quorum is not 1 to the population",
+            Refusal::Text => "the profile is longer than 4096 bytes, or has a byte above 127",
+            Refusal::Numeral => "a malformed number, or one above 255 in the profile",
+            Refusal::Digits => {
+                "a decimal of more than 15 digits, more than 4 in its exponent, or a power of ten outside -22 to 22"
+            }
+            Refusal::Member => "a replica's number in the profile is not below the population",
+            Refusal::Mechanism => "the profile has an unknown mechanism",
+            Refusal::Probabilities => {
+                "the probabilities are not one for each replica, each 0 to 1, with a threshold above 0 and at most 1"
+            }
+            Refusal::Domains => "the profile has more than 64 domains",
+            Refusal::Bytes =>
+                "the size is above 2^30 bytes, or more than 2^40 are in flight to a peer",
+            Refusal::EveryReplica => "the profile has all replicas fail together",
+            _ => "no plan can be made",
+        })
     }
 }

@@ -56,7 +56,7 @@ sheet =
     -- of level steps the first: of all, and of the last two
     ∷ line 3 1 0 2 2 2097152 idle (flat one ∷ flat one ∷ flat one ∷ []) 0 (one ∷ one ∷ [])
     ∷ line 4 1 0 3 3 0 idle (flat 0 ∷ flat three ∷ flat two ∷ flat two ∷ []) 1 (three ∷ two ∷ two ∷ [])
-    -- nobody to hear from: +0, which stands before what is above it, after what is below it and after -0, and is level with +0
+    -- nobody to hear from: +0, which is before what is above it, after what is below it and after -0, and is level with +0
     ∷ line 2 0 0 2 2 2097152 idle (usual ∷ usual ∷ []) 1 (0x4000_0000_8000_0000 ∷ 0 ∷ [])
     ∷ line 2 0 0 2 2 2097152 idle (usual ∷ model 0xbff0_0000_0000_0000 0 0 ∷ []) 0 (0xbff0_0001_0000_0000 ∷ 0 ∷ [])
     ∷ line 2 0 0 2 2 0 idle (usual ∷ flat 0 ∷ []) 0 (0 ∷ 0 ∷ [])

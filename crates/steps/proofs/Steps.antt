@@ -1,4 +1,4 @@
--- How the code of the steps comes to what the definitions say. The premises are the fields of a need's record. Assumes nothing.
+-- How the code of the steps computes what the definitions say. The premises are the fields of a need's record. Assumes nothing.
 use mathlib.Core.Path.{◌≡◌, sym, ap, ◌∙◌}
 use mathlib.Core.Bool.{Bool, true, false, not, true≢false}
 use mathlib.Core.List.{List}
@@ -51,7 +51,7 @@ module _ (n f own d majority size : ℕ) (inflight : List ℕ) (models : List Pe
   unfolding time_of_step
   timed peers share t p q e = e ∙ rw (p, q, shares)
 
--- ---- the search for the first number with the least value: what it has found of the numbers below i, r being what `precedes` returned at i
+-- ---- the search for the first number with the least value: what it has found of the numbers below i; r is what `precedes` returns at i
 module _ (f : ℕ → Float) where
   abbrev pub Found : ℕ → ℕ → Option Float → Type 0
   Found zero best least = (best ≡ 0) × (least ≡ None)

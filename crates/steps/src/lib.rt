@@ -40,7 +40,7 @@ impl Scheme {
 
 // What is known of the replicas, of which one is our own: the bytes in flight to each, and three numbers of each's model, slope in ms a
 // MiB, delay and jitter in ms.
-// Kept as it is: the C interface lends the bytes in flight and the models as two parallel tables.
+// Kept as it is: the entries refuse tables of wrong lengths in a fixed order, so the two tables are taken as they are lent.
 #[derive(Clone, Copy)]
 pub struct Peers<'a> {
     pub own: ReplicaId,

@@ -1,38 +1,44 @@
-// A line of the stored answers: its numbers, and the values that they stand for, taken one after another.
-// differential/src/bin/stored.rs has the format: a slice is its length and then its elements; a float is its bits. What a line lacks is 0,
-// or empty.
+// A line of the stored answers, its values taken one after another; what it lacks is 0 or empty. Format: differential/src/bin/stored.rs.
 #![tactic(auto)]
 
-ghost use Rattle.std.specs.Prelude.{◌≡◌, IfOk, get_or, take, drop, vec_len};
+ghost use Rattle.std.specs.Prelude.{◌≡◌, ◌+◌, ◌%◌, ◌^◌, get_or, take, drop, from_bits};
 ghost use Rattle.std.specs.Float.{binary64};
 ghost use Rattle.std.specs.Float.Ieee.{nan_bits};
+ghost use Rattle.stored.specs.Stored.{digit, with_digit, hexadecimal};
 
 use c_types::{Answer, Choice, Layout, Plan, Profile, Reply};
 use rows::Row;
-use std::alloc::{AllocError, Global};
 
-// The bits that stand for every NaN.
+// The bits of every NaN.
 const NAN: u64 = 0x7ff8_0000_0000_0000;
 
 // The first word of a lent table as it is before a call; each word after it is one more.
 const LENT: u64 = 0xab_ad1d_ea00;
 
-// The numbers of a line.
-pub fn numbers(alloc: Global, line: &[u8]) -> Result<Vec<u64>, AllocError> {
-    line.split(|b| *b == b' ').map(hexadecimal).collect(alloc)
+// The number that hexadecimal digits write, modulo 2^64.
+pub fn number(digits: &[u8]) -> u64
+    ensures { result ≡ hexadecimal digits.now }
+{
+    digits.iter().fold(0, |v, b| with_digit(v, *b))
 }
 
-fn hexadecimal(digits: &[u8]) -> u64 {
-    digits.iter().fold(0, |v, b| (v << 4) | digit(*b))
+fn with_digit(v: u64, b: u8) -> u64
+    ensures { result ≡ with_digit v b }
+{
+    v.wrapping_mul(16).wrapping_add(digit(b))
 }
 
-fn digit(b: u8) -> u64 {
+fn digit(b: u8) -> u64
+    ensures { result ≡ digit b }
+{
     let low = u64::from(b) % 16;
     if b < b'a' { low } else { (low + 9) % 16 }
 }
 
 // The double of some bits.
-fn float(bits: u64) -> f64 {
+pub fn float(bits: u64) -> f64
+    ensures { result ≡ from_bits binary64 bits }
+{
     if is_nan(bits) {
         return 0.0 / 0.0;
     }
@@ -45,11 +51,11 @@ fn is_nan(bits: u64) -> bool
     bits % 0x8000_0000_0000_0000 / 0x10_0000_0000_0000 == 0x7ff && bits % 0x10_0000_0000_0000 != 0
 }
 
-// A lent table of k words as it is before a call.
-pub fn table(alloc: Global, k: usize) -> Result<Vec<u64>, AllocError>
-    ensures { IfOk result (λ words. vec_len words ≡ k) }
+// The word i of a lent table as it is before a call.
+pub fn lent(i: usize) -> u64
+    ensures { result ≡ (0xab_ad1d_ea00 + i) % 2 ^ 64 }
 {
-    (0..k).map(|i| LENT.wrapping_add(i as u64)).collect(alloc)
+    LENT.wrapping_add(i as u64)
 }
 
 // The bits of a double.
@@ -65,7 +71,7 @@ pub fn bits(x: f64) -> u64 {
 pub struct Line<'a>(pub &'a [u64]);
 
 impl<'a> Line<'a> {
-    // ---- what stands next
+    // ---- the next value
 
     pub fn number(&mut self) -> u64
         ensures number { result ≡ get_or self.old.0.now 0 0 }
@@ -115,25 +121,6 @@ impl<'a> Line<'a> {
         self.first(k)
     }
 
-    // A slice of bytes, of loads, of floats.
-    pub fn bytes(&mut self, alloc: Global) -> Result<Vec<u8>, AllocError> {
-        self.slice().iter().map(|n| (*n % 256) as u8).collect(alloc)
-    }
-
-    pub fn loads(&mut self, alloc: Global) -> Result<Vec<usize>, AllocError> {
-        self.slice().iter().map(|n| *n as usize).collect(alloc)
-    }
-
-    pub fn floats(&mut self, alloc: Global) -> Result<Vec<f64>, AllocError> {
-        self.slice().iter().map(|n| float(*n)).collect(alloc)
-    }
-
-    // A lent table as it is before a call, of as many words as the number says.
-    pub fn table(&mut self, alloc: Global) -> Result<Vec<u64>, AllocError> {
-        let k = self.size();
-        table(alloc, k)
-    }
-
     // A profile: counts, flag, threshold, at most 16 probabilities, at most 64 domains.
     pub fn profile(&mut self) -> Profile {
         let domain_count = self.size();
@@ -152,12 +139,14 @@ impl<'a> Line<'a> {
         }
     }
 
-    // ---- whether an answer is what stands next
+    // ---- whether an answer is the next value
 
+    // Kept as it is: this and is_reply in one trait are no plainer, since Answer and Reply have fields of their own, and so a body each.
     pub fn is_answer(&mut self, r: Answer) -> bool {
         self.number() == r.refusal && self.number() == r.value
     }
 
+    // Kept as it is: this and is_choice in one trait are no plainer, since Layout and Choice have fields of their own, and so a body each.
     pub fn is_trial(&mut self, r: Layout) -> bool {
         self.number() == r.refusal && self.size() == r.width && self.number() == r.commits
     }
@@ -178,14 +167,14 @@ impl<'a> Line<'a> {
     }
 
     pub fn is_profile(&mut self, p: Profile) -> bool {
-        same(p, self.profile())
+        with_bits(p) == with_bits(self.profile())
     }
 
     pub fn is_slice(&mut self, words: &[u64]) -> bool {
         self.slice() == words
     }
 
-    // The first word of each row is what stands next, and the others are 0.
+    // Whether the first words of the rows are the next slice, and the other words are 0.
     pub fn is_first_words(&mut self, rows: &[u64]) -> bool {
         let owed = self.slice();
         rows.len() == owed.len() * 4
@@ -196,15 +185,16 @@ impl<'a> Line<'a> {
     }
 }
 
-// Whether two profiles are the same, floats by their bits.
-fn same(p: Profile, q: Profile) -> bool {
-    p.domain_count == q.domain_count
-        && p.prob_count == q.prob_count
-        && p.runtime == q.runtime
-        && bits(p.threshold) == bits(q.threshold)
-        && p.probs
-            .iter()
-            .zip(&q.probs)
-            .all(|(a, b)| bits(*a) == bits(*b))
-        && p.domains == q.domains
+// The fields of a profile, with the bits of each float: by these a NaN is the same as itself.
+fn with_bits(p: Profile) -> (usize, usize, u64, u64, [u64; 16], [u64; 64]) {
+    let probs = p.probs.map(bits);
+    let domains = p.domains;
+    (
+        p.domain_count,
+        p.prob_count,
+        p.runtime,
+        bits(p.threshold),
+        probs,
+        domains,
+    )
 }

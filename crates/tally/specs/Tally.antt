@@ -2,7 +2,7 @@
 use Rattle.std.specs.Prelude.{Bool, false, cond, ◌&&◌, List, [], ◌∷◌, ℕ, ◌*◌, eqb, take, replicate}
 use Rattle.std.specs.Int.Bits.{bit_or}
 use Rattle.bitmap.specs.Mask.{has_bit, with_bit}
-use Rattle.rows.specs.Row.{row_in, with_row}
+use Rattle.rows.specs.Row.{row_of, row_in, with_row}
 use Rattle.refusals.specs.Numbers.{POPULATION, REPLICA, SHARDS, QUORUM, MASK, TABLE, OTHER_VALUE}
 use Rattle.refusals.specs.First.{Case, unless, first_of}
 use Rattle.refusals.specs.Outcome.{Outcome, outcome, written}
@@ -10,6 +10,7 @@ use Rattle.refusals.specs.Limits.{is_population, is_replica, is_shards, is_quoru
 use Rattle.coverage.specs.Coverage.{commits}
 use Rattle.tally.specs.declared.Proposal.{Proposal}
 use Rattle.tally.specs.declared.Tally.{Tally}
+use Rattle.tally.specs.declared.AcceptReply.{AcceptReply}
 use Rattle.tally.specs.declared.Replied.{Replied}
 use Rattle.tally.specs.declared.Status.{Status}
 use Rattle.tally.specs.declared.Status.TheVariants.{Waiting, Committed, AlreadyCommitted}
@@ -54,6 +55,10 @@ pub record Reply : Type 0 where
 
 abbrev pub told : ℕ → Proposal → ℕ → List ℕ → Reply
 told source proposal row faults = record { source = source; proposal = proposal; row = row; faults = faults }
+
+-- that of the code's struct
+abbrev pub from_reply : AcceptReply → Reply
+from_reply r = told r.source.0 r.proposal (row_of r.row) r.faults.now
 
 -- the tally's ballot and value id
 unfoldable pub is_same_value : Tally → Proposal → Bool

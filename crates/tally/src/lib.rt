@@ -5,7 +5,7 @@
 ghost use Rattle.std.specs.Prelude.{◌≡◌, ◌+◌, ◌*◌, ◌≤◌, length, IfOk};
 ghost use Rattle.rows.specs.Row.{row_of, row_in, with_row};
 ghost use Rattle.refusals.specs.Refused.{refusal_of, outcome_of, outcome_by};
-ghost use Rattle.tally.specs.Tally.{open_refusal, opening_of, row_with, told, reply_refusal, status_of, reply_of, tally_after};
+ghost use Rattle.tally.specs.Tally.{open_refusal, opening_of, row_with, from_reply, reply_refusal, status_of, reply_of, tally_after};
 
 use bitmap::ReplicaId;
 use coverage::Holdings;
@@ -33,7 +33,16 @@ pub struct Tally {
     pub rows: [u64; 64],
 }
 
-// What a reply is answered.
+// An accept reply, and the fault list lent with it.
+#[derive(Clone, Copy)]
+pub struct AcceptReply<'a> {
+    pub source: ReplicaId,
+    pub proposal: Proposal,
+    pub row: Row,
+    pub faults: &'a [u64],
+}
+
+// The answer to a reply.
 #[derive(Clone, Copy, Debug, PartialEq, Eq)]
 pub enum Status {
     Waiting,
@@ -72,20 +81,13 @@ pub fn open(
     })
 }
 
-// Counts a reply. By value: the tally comes back beside the status.
-// Kept as it is: the C interface passes the parameters one by one, and a struct of them would be built for check_reply alone.
+// Counts a reply. By value: the tally is returned beside the status.
 #[tactic(auto, using(refusals::proofs::Entered::entered), unfolding(crate::specs::Tally::reply_of, crate::specs::Tally::tally_after, crate::specs::Tally::noted, crate::specs::Tally::is_committing))]
-pub fn reply(
-    t: Tally,
-    source: ReplicaId,
-    proposal: Proposal,
-    row: Row,
-    faults: &[u64],
-) -> Result<Replied, Refusal>
-    ensures status { outcome_by status_of result ≡ reply_of t (told source.0 proposal (row_of row) faults.now) }
-    ensures tally { IfOk result (λ replied. replied.tally ≡ tally_after t (told source.0 proposal (row_of row) faults.now)) }
+pub fn reply(t: Tally, r: &AcceptReply) -> Result<Replied, Refusal>
+    ensures status { outcome_by status_of result ≡ reply_of t (from_reply r.now) }
+    ensures tally { IfOk result (λ replied. replied.tally ≡ tally_after t (from_reply r.now)) }
 {
-    check_reply(&t, source, proposal, row, faults)?;
+    check_reply(&t, r)?;
     if t.committed {
         return Ok(Replied {
             status: Status::AlreadyCommitted,
@@ -93,15 +95,15 @@ pub fn reply(
         });
     }
     let mut rows = t.rows;
-    note(t.heard, source, row, &mut rows);
-    let heard = bitmap::with_replica(t.heard, source);
+    note(t.heard, r.source, r.row, &mut rows);
+    let heard = bitmap::with_replica(t.heard, r.source);
     let holdings = Holdings {
         population: t.population,
         width: t.width,
         heard,
         rows: &rows,
     };
-    let committed = holdings.commits(t.quorum, t.data_shards, faults);
+    let committed = holdings.commits(t.quorum, t.data_shards, r.faults);
     let status = if committed {
         Status::Committed
     } else {
@@ -120,17 +122,11 @@ pub fn reply(
 
 // The same on a lent tally, as the source does it. A refused reply leaves it as it was: nothing is stored.
 #[tactic(auto, using(crate::proofs::ReplyLaws::refused_leaves))]
-pub fn accept_reply(
-    t: &mut Tally,
-    source: ReplicaId,
-    proposal: Proposal,
-    row: Row,
-    faults: &[u64],
-) -> Result<Status, Refusal>
-    ensures status { outcome_of result ≡ reply_of t.old (told source.0 proposal (row_of row) faults.now) }
-    ensures tally { t.new ≡ tally_after t.old (told source.0 proposal (row_of row) faults.now) }
+pub fn accept_reply(t: &mut Tally, r: &AcceptReply) -> Result<Status, Refusal>
+    ensures status { outcome_of result ≡ reply_of t.old (from_reply r.now) }
+    ensures tally { t.new ≡ tally_after t.old (from_reply r.now) }
 {
-    let replied = reply(*t, source, proposal, row, faults)?;
+    let replied = reply(*t, r)?;
     *t = replied.tally;
     Ok(replied.status)
 }
@@ -146,25 +142,19 @@ fn check_open(n: usize, quorum: usize, d: usize, w: usize) -> Result<(), Refusal
 
 // Whether the reply is counted, or why not. The tally is tested like the opening's values, and its words too: it may come from anywhere.
 #[tactic(auto, unfolding(crate::specs::Tally::reply_refusal, crate::specs::Tally::is_same_value, refusals::specs::Limits::is_population))]
-fn check_reply(
-    t: &Tally,
-    source: ReplicaId,
-    proposal: Proposal,
-    row: Row,
-    faults: &[u64],
-) -> Result<(), Refusal>
-    ensures { refusal_of result ≡ reply_refusal t.now (told source.0 proposal (row_of row) faults.now) }
+fn check_reply(t: &Tally, r: &AcceptReply) -> Result<(), Refusal>
+    ensures { refusal_of result ≡ reply_refusal t.now (from_reply r.now) }
 {
     let n = t.population;
     unless(refusals::is_population(n), Refusal::Population)?;
-    unless(refusals::is_replica(n, source), Refusal::Replica)?;
+    unless(refusals::is_replica(n, r.source), Refusal::Replica)?;
     unless(refusals::is_shards(t.data_shards, t.width), Refusal::Shards)?;
     unless(refusals::is_quorum(n, t.quorum), Refusal::Quorum)?;
     unless(refusals::is_mask(n, t.heard), Refusal::Mask)?;
     unless(refusals::are_rows(t.width, &t.rows[..n * 4]), Refusal::Mask)?;
-    unless(refusals::is_row(t.width, row), Refusal::Mask)?;
-    unless(refusals::is_fault_list(n, faults), Refusal::Table)?;
-    unless(t.proposal == proposal, Refusal::OtherValue)
+    unless(refusals::is_row(t.width, r.row), Refusal::Mask)?;
+    unless(refusals::is_fault_list(n, r.faults), Refusal::Table)?;
+    unless(t.proposal == r.proposal, Refusal::OtherValue)
 }
 
 // The rows with that of the source replaced or united. A part: there is one of the source.
@@ -176,7 +166,7 @@ fn note(heard: u64, source: ReplicaId, row: Row, rows: &mut [u64])
     row_with(heard, held, source, row).put(rows, source.0);
 }
 
-// A first reply replaces what stood there, a later one is united with it.
+// The row of a first reply replaces the one held, that of a later reply is united with it.
 fn row_with(heard: u64, held: Row, source: ReplicaId, row: Row) -> Row
     ensures { row_of result ≡ row_with heard (row_of held) source.0 (row_of row) }
 {

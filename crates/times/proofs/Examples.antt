@@ -27,7 +27,7 @@ sheet : List Line
 unfolding line
 sheet =
     -- slope, delay, jitter, unreliability, at the penalty: the bits are others if delay and jitter are swapped or added first, if the penalty's term is added
-    -- first or to the jitter, if 1000000 stands for 1048576, if a product is not rounded, or if all is rounded once
+    -- first or to the jitter, if 1000000 is taken for 1048576, if a product is not rounded, or if all is rounded once
     -- 0.8, 1.3, 0.4, 0.01, at 100.3
     line (heard 0x3fe9_9999_9999_999a 0x3ff4_cccc_cccc_cccd 0x3fd9_9999_9999_999a 0x3f84_7ae1_47ae_147b) 1500000 0x4059_1333_3333_3333 0x400e_c77e_76c8_b438
     -- 0.1, 33.3, 3.14, 0.9, at 100.3

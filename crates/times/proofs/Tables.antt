@@ -1,13 +1,12 @@
--- What the loops of `fill_times` keep: the place i is that of the replica p with k shards, in a table of L places. And the places of a table. Assumes
--- nothing.
-use Rattle.std.proofs.Common.{◌≡◌, ℕ, suc, ◌+◌, ◌*◌, ◌<◌, ◌≤◌, List, length, sym, ◌∙◌, subst, add-one, mul-le-mul, mul-suc, arith}
+-- What the loops of `fill_times` keep: the place i is that of the replica p with k shards, in a table of L places. And the places of a
+-- table. Assumes nothing.
+use Rattle.std.proofs.Common.{◌≡◌, ℕ, suc, ◌+◌, ◌*◌, ◌<◌, ◌≤◌, List, length, sym, ◌∙◌, subst, add-one, mul-suc, arith}
 use lib.Ieee.{Float}
 use lib.ListN.{set, get_or-eq_default}
 use Rattle.lists.proofs.BelowLoops.{Filled, filled_more}
-use Rattle.times.specs.Times.{most_times, never, time_of, cell, time_in}
+use Rattle.times.specs.Times.{never, time_of, cell, time_in}
 use Rattle.times.proofs.TimeLaws.{place_row, place_load}
 use Rattle.times.specs.declared.PeerRecord.{PeerRecord}
-use Rattle.refusals.specs.Limits.{most_shards}
 
 module _ (d i p k : ℕ) (load : k ≤ d) (place : i ≡ p * suc d + k) where
   -- that replica's time is what is due there

@@ -70,7 +70,7 @@ module _ (d p k : ℕ) (load : k ≤ d) where
   pub place_load : (p * suc d + k) % suc d ≡ k
   place_load = mul-add-mod_self_right p (suc d) k ∙ mod-eq_of_lt (suc-le-suc load)
 
-  -- it stands in a table of n replicas exactly if there is such a replica
+  -- it is in a table of n replicas exactly if there is such a replica
   pub place_within : (n : ℕ) → p < n → p * suc d + k < n * suc d
   place_within n h = (div-lt_iff_lt-mul (zero-lt-suc d)).0 (subst (λ (q : ℕ). q < n) (sym place_row) h)
 

@@ -59,7 +59,7 @@ shard_length size d = max 1 ((size + d - 1) / d)
 abbrev pub silent : PeerRecord
 silent = record { peer = Silent; inflight = 0 }
 
--- ---- the times of all n replicas at the loads 0 to d, in one list: that of the replica p with k shards stands at p × (d + 1) + k
+-- ---- the times of all n replicas at the loads 0 to d, in one list: that of the replica p with k shards is at p × (d + 1) + k
 module _ (own d len : ℕ) (records : List PeerRecord) (penalty : Float) where
   abbrev pub time_of : ℕ → ℕ → Float
   time_of p k = time_at (p == own) (slice_index_or records p silent) k len penalty

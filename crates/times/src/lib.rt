@@ -2,7 +2,7 @@
 #![tactic(auto)]
 
 ghost use Rattle.std.specs.Prelude.{◌≡◌, suc, ◌*◌, ◌^◌, ◌<◌, ◌≤◌, false, length};
-ghost use Rattle.times.specs.Times.{InBounds, PeersInBounds, predict_of, settled, reply_time, time_at, shard_length, times_of};
+ghost use Rattle.times.specs.Times.{InBounds, PeersInBounds, most_times, predict_of, settled, reply_time, time_at, shard_length, times_of, time_in};
 ghost use Rattle.refusals.specs.Limits.{most_shards};
 
 use bitmap::ReplicaId;
@@ -20,6 +20,7 @@ pub struct PerfModel {
 }
 
 // A peer is silent, or heard with its model and its unreliability.
+// Kept as it is: a rule of the project names this form: the heard case carries slope, delay, jitter and unreliability.
 #[derive(Clone, Copy)]
 pub enum Peer {
     Silent,
@@ -31,7 +32,7 @@ pub enum Peer {
     },
 }
 
-// What a plan is told of a replica: the peer, and the bytes in flight to it.
+// What a plan knows of a replica: the peer, and the bytes in flight to it.
 #[derive(Clone, Copy)]
 pub struct PeerRecord {
     pub peer: Peer,
@@ -51,7 +52,7 @@ pub fn reply_time(peer: Peer, x: u64, penalty: f64) -> f64
     ensures { result ≡ reply_time peer x penalty }
 {
     match peer {
-        Peer::Silent => 1.0 / 0.0,
+        Peer::Silent => f64::INFINITY,
         Peer::Heard {
             slope,
             delay,
@@ -74,7 +75,11 @@ pub fn reply_time(peer: Peer, x: u64, penalty: f64) -> f64
 fn settled(t: f64) -> f64
     ensures { result ≡ settled t }
 {
-    if floats::is_finite(t) { t } else { 1.0 / 0.0 }
+    if floats::is_finite(t) {
+        t
+    } else {
+        f64::INFINITY
+    }
 }
 
 // When a replica with k shards replies; our own time is +0, its record unread. A part: the numbers have been tested.
@@ -90,6 +95,7 @@ fn time_at(own: bool, told: PeerRecord, k: usize, len: u64, penalty: f64) -> f64
 }
 
 // The length of a shard. A part: there is a data shard.
+// Kept as it is: as in steps, adaptive and assignment, a type of the sizes up to 2^30 is no plainer: each use takes the number out again.
 pub fn shard_length(size: u64, d: usize) -> u64
     requires { (0 < d) × (d ≤ most_shards) × (size ≤ 2 ^ 30) }
     ensures { result ≡ shard_length size d }
@@ -118,4 +124,21 @@ pub fn fill_times(
             times[p * (d + 1) + k] = time_at(p == own.0, records[p], k, len, penalty);
         }
     }
+}
+
+// The time of the replica p with k shards in a table of the loads 0 to d; never, where it has none. A part: the numbers have been tested.
+// Kept as it is: as in time_at and fill_times, a type of the numbers up to most_shards is no plainer: each use takes the number out again.
+#[inline]
+pub fn time_in(d: usize, times: &[f64], p: ReplicaId, k: usize) -> f64
+    requires { (d ≤ most_shards) × (k ≤ most_shards) × (length times.now ≤ most_times) }
+    ensures { result ≡ time_in d times.now p.0 k }
+{
+    if times.len() <= p.0 {
+        return f64::INFINITY;
+    }
+    let i = p.0 * (d + 1) + k;
+    if times.len() <= i {
+        return f64::INFINITY;
+    }
+    times[i]
 }

@@ -24,13 +24,6 @@ impl TimeTable<'_> {
         requires { k ≤ most_shards }
         ensures { result ≡ time_in self.now.data_shards self.now.times.now p.0 k }
     {
-        if self.times.len() <= p.0 {
-            return f64::INFINITY;
-        }
-        let i = p.0 * (self.data_shards + 1) + k;
-        if self.times.len() <= i {
-            return f64::INFINITY;
-        }
-        self.times[i]
+        crate::time_in(self.data_shards, self.times, p, k)
     }
 }

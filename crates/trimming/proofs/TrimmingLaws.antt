@@ -1,4 +1,4 @@
--- What trimming comes to: loads from which a pass keeps nothing, and no other load than those that it tries changes. Assumes nothing.
+-- The result of trimming: loads from which a pass keeps nothing, and no other load than those that it tries changes. Assumes nothing.
 use Rattle.std.specs.Prelude.{◌≡◌, Bool, cond, ◌||◌, ltb, set}
 use Rattle.std.proofs.Math.Path.{refl}
 use Rattle.std.proofs.Common.{sym, ap, ◌∙◌, true≢false, le_refl, arith, ltb-true}

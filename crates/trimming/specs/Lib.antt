@@ -1,3 +1,3 @@
--- The order of trimming, and trimming step by step, with what it comes to.
+-- The order of trimming, and trimming step by step, with its result.
 pub mod Order
 pub mod Trimming

@@ -2,7 +2,7 @@
 use mathlib.Core.Path.{◌≡◌, refl, ◌∙◌}
 use mathlib.Core.List.{List}
 use mathlib.Core.Bool.{true, ◌&&◌}
-use Prim.Native.Nat.{ℕ, ◌^◌, ◌<◌}
+use Prim.Native.Nat.{ℕ, ◌^◌, ◌<◌, ◌≤◌}
 use native.Mathlib.Omega.{arith}
 use borrow.Author.Rules.{rules}
 use borrow.Author.Tests.{ltb-true}
@@ -11,14 +11,16 @@ use lib.ListN.{length, get_or, take}
 use lib.Seq.{take_all}
 use Rattle.std.specs.List.{list_all}
 use Rattle.lists.specs.AllLaws.{all_means}
-use Rattle.refusals.specs.Limits.{is_mask}
+use Rattle.refusals.specs.Limits.{is_mask, is_under}
 use Rattle.faults.specs.Family.{is_among}
-use Rattle.faults.proofs.Marks.{has_bit_for, marked_then, marked_one, marked_none, among_more}
+use Rattle.faults.proofs.Marks.{marked_then, marked_one, marked_none, among_more}
+use Rattle.faults.proofs.Tables.{domains_below}
 use Rattle.faults.proofs.mark_domains.Goals as goal
 
--- the domain at the place i is a set of the replicas
-small : (n i : ℕ) (ds : List ℕ) → list_all (is_mask n) ds ≡ true → i < length ds → get_or ds i 0 < 2 ^ n
-small n i ds e h = ltb-true (get_or ds i 0) (2 ^ n) ((all_means (is_mask n) 0 ds).0 e i h)
+-- the domain at the place i has a bit in a table with the replicas that it had before
+inside : (n k size i : ℕ) (ds : List ℕ) → k ≡ n → 2 ^ k ≤ size → list_all (is_mask n) ds ≡ true → i < length ds → get_or ds i 0 < size
+inside n k size i ds same room e h =
+    ltb-true (get_or ds i 0) size ((all_means (is_under size) 0 ds).0 (domains_below n size ds (rw same at room) e) i h)
 
 pub loop-domain-init : goal.loop-domain-init
 unfolding is_among
@@ -28,8 +30,7 @@ loop-domain-init g c =
 pub put-requires : goal.put-requires
 put-requires g c =
     let l = c.loop-domain in
-    let d = small c.args.marks.now.replicas l.domain-index c.args.domains.now c.requires (omega arith) in
-    (search rules, has_bit_for c.args.marks.now.replicas l.marks.replicas l.invariant.replicas _ l.marks.words d l.marks.room)
+    (search rules, inside c.args.marks.now.replicas l.marks.replicas _ l.domain-index c.args.domains.now l.invariant.replicas l.marks.room c.requires (omega arith))
 
 pub loop-domain-preserved : goal.loop-domain-preserved
 loop-domain-preserved g c =
@@ -41,12 +42,12 @@ loop-domain-preserved g c =
     let i : ℕ = l.domain-index in
     let h : i < length ds = omega arith in
     let d : ℕ = get_or ds i 0 in
-    let inside = has_bit_for n l.marks.replicas v.replicas d l.marks.words (small n i ds c.requires h) l.marks.room in
+    let bit = inside n l.marks.replicas _ i ds v.replicas l.marks.room c.requires h in
     record {
       replicas = c.put.ensures.replicas ∙ v.replicas;
       marked =
           marked_then (2 ^ n) (is_among (take i ds)) (λ m. eqb m d && true) _ a.marks.now.words l.marks.words _ v.marked
-          (marked_one (2 ^ n) d true l.marks.words _ inside c.put.ensures.words refl)
+          (marked_one (2 ^ n) d true l.marks.words _ bit c.put.ensures.words refl)
           (λ m. among_more ds i m h);
     }
 

@@ -1,11 +1,10 @@
 -- `layout::layout_commits` meets its contract. Assumes nothing.
 use mathlib.Core.Path.{sym, ◌∙◌}
-use native.Mathlib.Omega.{arith}
 use lib.ListN.{replicate}
-use Rattle.lists.proofs.Lent.{lent, back, back_room, back_lent}
+use Rattle.lists.proofs.Lent.{lent}
 use Rattle.layout.specs.Layout.{layout_commits_of, trial_written}
 use Rattle.layout.proofs.RefusalLaws.{trial_sound}
-use Rattle.layout.proofs.Entries.{trial_small, trial_below, trial_written_is, trial_says}
+use Rattle.layout.proofs.Entries.{trial_small, trial_laid, trial_says}
 use Rattle.layout.proofs.layout_commits.Goals as goal
 
 pub slice_bounds-heard-end : goal.slice_bounds-heard-end
@@ -13,9 +12,9 @@ unfolding layout_commits_of trial_written
 slice_bounds-heard-end c =
     trial_small _ _ _ _ _ _ _ _ c.in_ok-check_commits.ensures
 
-pub slice_bounds-heard_loads-end : goal.slice_bounds-heard_loads-end
+pub slice_bounds-heard-end-2 : goal.slice_bounds-heard-end-2
 unfolding layout_commits_of trial_written
-slice_bounds-heard_loads-end c =
+slice_bounds-heard-end-2 c =
     lent _ (replicate 16 0) (trial_small _ _ _ _ _ _ _ _ c.in_ok-check_commits.ensures)
 
 pub heard_loads-requires : goal.heard_loads-requires
@@ -24,35 +23,20 @@ heard_loads-requires c =
     let s = (trial_sound _ _ _ _ _ _ _ _).0 (sym c.in_ok-check_commits.ensures) in
     sym (lent _ (replicate 16 0) s.population.1) ∙ sym s.each_load
 
-pub slice_bounds-heard-end-2 : goal.slice_bounds-heard-end-2
+pub invariant_of-rule : goal.invariant_of-rule
 unfolding layout_commits_of trial_written
-slice_bounds-heard-end-2 c =
-    back_room _ (replicate 16 0) (trial_small _ _ _ _ _ _ _ _ c.in_ok-check_commits.ensures) _ c.heard_loads.auto.heard
-
-pub slice_bounds-lay-end : goal.slice_bounds-lay-end
-unfolding layout_commits_of trial_written
-slice_bounds-lay-end c =
-    back_lent _ (replicate 16 0) (trial_small _ _ _ _ _ _ _ _ c.in_ok-check_commits.ensures) _ c.heard_loads.auto.heard
-
-pub lay-width-requires : goal.lay-width-requires
-unfolding layout_commits_of trial_written
-lay-width-requires c =
+invariant_of-rule c =
     let s = (trial_sound _ _ _ _ _ _ _ _).0 (sym c.in_ok-check_commits.ensures) in
-    let h = c.heard_loads in
-    let k = back_lent _ (replicate 16 0) s.population.1 h.new.heard h.auto.heard in
-    (s.shards, omega (arith, k, s.population.1), omega (arith, k, s.table))
+    record { small = s.population.1; fits = s.shards }
 
-pub invariant_of-holdings : goal.invariant_of-holdings
+pub trial-requires : goal.trial-requires
 unfolding layout_commits_of trial_written
-invariant_of-holdings c =
-    let z = c.in_ok-check_commits.ensures in
-    let s = (trial_sound _ _ _ _ _ _ _ _).0 (sym z) in
-    let h = back _ (replicate 16 0) s.population.1 _ c.heard_loads.auto.heard ∙ c.heard_loads.ensures in
-    record { whole = omega arith; below = trial_below _ _ _ _ _ _ _ _ z _ _ h c.lay-width.ensures.words _ c.lay-width.ensures.width }
+trial-requires c =
+    let s = (trial_sound _ _ _ _ _ _ _ _).0 (sym c.in_ok-check_commits.ensures) in
+    record { a_load_each = c.heard_loads.auto.heard ∙ sym (lent _ (replicate 16 0) s.population.1); a_row_each = s.table }
 
 pub returns : goal.returns
 unfolding layout_commits_of trial_written
 returns c =
     let z = c.in_ok-check_commits.ensures in
-    let s = (trial_sound _ _ _ _ _ _ _ _).0 (sym z) in
-    let h = back _ (replicate 16 0) s.population.1 _ c.heard_loads.auto.heard ∙ c.heard_loads.ensures in record { answer = trial_says _ _ _ _ _ _ _ _ z _ _ h c.lay-width.ensures.words _ _ c.lay-width.ensures.width c.commits-commits.ensures; words = trial_written_is _ _ _ _ _ _ _ _ z _ _ h c.lay-width.ensures.words }
+    record { answer = trial_says _ _ _ _ _ _ _ _ z _ c.heard_loads.ensures _ c.trial.ensures.answer; words = trial_laid _ _ _ _ _ _ _ _ z _ c.heard_loads.ensures _ c.trial.ensures.words }

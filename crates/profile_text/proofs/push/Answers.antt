@@ -1,11 +1,12 @@
 -- `profile_text::push` meets its contract. Assumes nothing.
 use Rattle.profile_text.proofs.Mechanisms.{listed_next, listed_past}
 use Rattle.profile_text.proofs.push.Goals as goal
+use Rattle.profile_text.proofs.push.Goals.{then-list-lt16, else-list-lt16}
 
-pub returns-then-k-lt16 : goal.returns-then-k-lt16
-returns-then-k-lt16 c =
-    λ ps e. listed_next c.args.list.now c.args.x ps e c.if-k-lt16.true
-
-pub returns-else-k-lt16 : goal.returns-else-k-lt16
-returns-else-k-lt16 c =
-    λ ps e. listed_past c.args.list.now c.args.x ps e c.if-k-lt16.false
+pub returns : goal.returns
+returns c =
+    λ ps e.
+    elim c.if-list-lt16.branch [
+      | then-list-lt16 w ↦ rw w.list-is (listed_next c.args.list.now c.args.x ps e w.if-list-lt16.true)
+      | else-list-lt16 w ↦ rw w.list-is (listed_past c.args.list.now c.args.x ps e w.if-list-lt16.false)
+    ]

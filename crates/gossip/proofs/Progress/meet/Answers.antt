@@ -3,8 +3,8 @@ use mathlib.Core.Path.{refl, ◌∙◌}
 use native.Mathlib.Omega.{arith}
 use Rattle.rows.specs.Row.{words}
 use Rattle.rows.proofs.WordLaws.{value_lt}
-use Rattle.rows.proofs.Facts.{are_words}
-use Rattle.gossip.proofs.Steps.{same_row, adds_nothing, adds}
+use Rattle.rows.proofs.Facts.{are_words, same_row}
+use Rattle.gossip.proofs.Steps.{adds_nothing, adds}
 use Rattle.gossip.proofs.Progress.meet.Goals as goal
 
 pub returns-then-eq : goal.returns-then-eq

@@ -20,5 +20,5 @@ loop-s-preserved c =
     let l = c.loop-s in
     let a = c.args.self.now in (
       sum_more _ _ _ _ l.invariant.0 _ c.loop-s-test.true c.dealt.ensures,
-      rows_more (row_at a.data_shards a.width a.loads.now) c.args.rows.now l.s _ l.rows c.put.new.rows (omega arith) l.invariant.1 (row_is a.data_shards a.loads.now l.s l.offset.0 l.invariant.0 a.width _ c.row_at.ensures) c.put.ensures,
+      rows_more (row_at a.data_shards a.width a.loads.now) c.args.rows.now l.s _ l.rows c.put.new.rows (omega arith) l.invariant.1 (row_is a.data_shards a.loads.now l.s l.offset.0 l.invariant.0 a.width _ c.row_at-row.ensures) c.put.ensures,
     )

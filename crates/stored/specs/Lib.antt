@@ -1,0 +1,2 @@
+-- What a line of the stored answers encodes.
+pub mod Stored
