@@ -200,23 +200,26 @@ fn layouts(empty: usize, n: u64) {
     });
     let models = vec![[1.0, 1.0, 0.5, 0.0]; n as usize];
     let inflight = vec![0; n as usize];
-    print(&format!("pick_assignment n {n}"), empty, || {
-        let plan = callboard::pick_assignment(
-            n,
-            0,
-            n / 2 + 1,
-            d,
-            total,
-            1 << 20,
-            0.0,
-            everyone,
-            &models,
-            &inflight,
-            &faults,
-            &mut rows,
-        );
-        assert!(plan.unwrap().is_some());
-    });
+    // A plan of at most 64 data shards, and one of more.
+    for d in [d, WIDTH] {
+        print(&format!("pick_assignment n {n} d {d}"), empty, || {
+            let plan = callboard::pick_assignment(
+                n,
+                0,
+                n / 2 + 1,
+                d,
+                total,
+                1 << 20,
+                0.0,
+                everyone,
+                &models,
+                &inflight,
+                &faults,
+                &mut rows,
+            );
+            assert!(plan.unwrap().is_some());
+        });
+    }
     let mut left_out = vec![EMPTY; n as usize];
     print(&format!("gossip_targets_excl n {n}"), empty, || {
         black_box(
