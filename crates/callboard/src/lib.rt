@@ -244,6 +244,7 @@ pub fn callboard_policy_rows<'a>(
     ensures answer { result ≡ to_choice (policy_in n f own d w majority size adaptive balanced models.now inflight.now alive init.now table.now (is_table n (length rows.old))) }
     ensures words { rows.new ≡ rows_left n d majority (policy_in n f own d w majority size adaptive balanced models.now inflight.now alive init.now table.now (is_table n (length rows.old))) init.now table.now rows.old }
 {
+    // Kept as it is: made as above, since a function that makes it would take the same fourteen values and name each of them again.
     let input = PolicyInput {
         population: n,
         tolerance: f,
