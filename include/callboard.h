@@ -12,8 +12,9 @@
  *   those of replica 1, and so on: 4 n words for n rows, where row s starts at word 4 s. A single row is passed by value.
  * - `ceiling` says what `width` is: 0 for the exact width of a layout, otherwise the most that it may be.
  * - There is no state and no allocation: calls may run side by side if they share no tally and no memory that one of them writes.
- * - The stack that a call takes, as bindings/rust/examples/stack.rs measures it: callboard_pick_assignment 37 KiB, but 13 up to 64 data
- *   shards; callboard_fault_list at most 11; callboard_parse_profile 5; every other function at most 4. A refused call may take as much.
+ * - The stack that a call takes, as bindings/rust/examples/stack.rs measures it: callboard_pick_assignment 38 KiB, but 14 up to 64 data
+ *   shards; callboard_fault_list at most 11; callboard_parse_profile and callboard_accept_reply 5; every other function at most 4. A refused
+ *   call may take as much.
  *
  * Numbers that refuse
  *
@@ -138,6 +139,13 @@ callboard_answer callboard_fault_list(uint64_t n, uint64_t f, callboard_profile 
  * Refusals: 1, 4, 16, 17. */
 callboard_answer callboard_covers(uint64_t n, uint64_t d, uint64_t w, uint64_t heard, const uint64_t *rows, size_t rows_len,
                                   const uint64_t *faults, size_t faults_len);
+
+/* How many rows the walk of coverage unites under the list's first set. It takes the rows of those heard outside the set in falling number
+ * of shards, equal ones by rising replica, and ends once d distinct shards are together: the length of the shortest beginning of that order
+ * whose rows have d, or of the whole order if none does. An empty row counts when it is passed; with nobody left it is 0.
+ * Refusals: 1, 4, 16, 17. */
+callboard_answer callboard_rows_united(uint64_t n, uint64_t d, uint64_t w, uint64_t heard, const uint64_t *rows, size_t rows_len,
+                                       const uint64_t *faults, size_t faults_len);
 
 /* The discard rule: 1 if some listed set contains every replica that was not heard, else 0.
  * Refusals: 1, 16, 17. */

@@ -2,6 +2,7 @@
 
 use std::hint::black_box;
 
+use callboard::Row;
 use oracle::api::{self, CoverCase, SurvivalCase};
 
 use crate::inputs::{NARROW, WIDE, add_shard, everyone, fault_masks, round_robin, width_note};
@@ -19,6 +20,11 @@ enum Left {
 
 pub fn cases() -> Vec<Case> {
     let mut cases = vec![];
+    for (n, f, count) in [(3, 1, 4), (4, 1, 4)] {
+        let name = format!("covers n {n}, {n} sets, covered");
+        let make = move || covers(n, f, count, NARROW, Left::Enough);
+        cases.push(Case::new(name, make));
+    }
     for (n, f, count, most) in [
         (5, 2, 4, NARROW),
         (5, 2, 50, WIDE),
@@ -39,6 +45,18 @@ pub fn cases() -> Vec<Case> {
             });
         }
     }
+    for w in [NARROW, WIDE] {
+        let name = |note| format!("covers n 16{}, 560 sets, {note}", width_note(w));
+        let full = round_robin(16, w, 0, w);
+        cases.push(Case::new(name("one row is enough"), move || {
+            covered(16, 3, w, w, full, true)
+        }));
+        cases.push(Case::new(name("every row overlaps"), move || {
+            overlapping(16, 3, w)
+        }));
+    }
+    let make = || covers(16, 5, 4, NARROW, Left::Enough);
+    cases.push(Case::new("covers n 16, 4368 sets, covered", make));
     for (heard, note) in [(13, "by the last"), (12, "by none")] {
         let name = format!("survived_by n 16, 560 sets, {note}");
         cases.push(Case::new(name, move || survived_by(16, 3, everyone(heard))));
@@ -62,6 +80,21 @@ fn covers(n: u8, f: u8, count: u8, most: u8, left: Left) -> Sides {
         used += 1;
     }
     let w = if most == NARROW { used } else { most };
+    covered(n, f, d, w, rows, matches!(left, Left::Enough))
+}
+
+/// Rows that have all shards but the last n in common, and of these each has one: any n - f of them
+/// are needed, and each adds one shard.
+fn overlapping(n: u8, f: u8, w: u8) -> Sides {
+    let common = w - n;
+    let mut rows = round_robin(n, common, 0, w);
+    for (row, shard) in rows.iter_mut().zip(common.into()..) {
+        add_shard(row, shard);
+    }
+    covered(n, f, common + n - f, w, rows, true)
+}
+
+fn covered(n: u8, f: u8, d: u8, w: u8, rows: Vec<Row>, expected: bool) -> Sides {
     let masks = fault_masks(n, f);
     let acks: Vec<_> = rows.iter().copied().map(Some).collect();
     let case = CoverCase::new(n, &masks, w, &acks);
@@ -70,7 +103,7 @@ fn covers(n: u8, f: u8, count: u8, most: u8, left: Left) -> Sides {
         let (rows, masks) = (black_box(&rows), black_box(&masks));
         callboard::covers(n.into(), d.into(), w.into(), everyone(n), rows, masks).unwrap()
     };
-    assert_eq!(judged, matches!(left, Left::Enough));
+    assert_eq!(judged, expected);
     assert_eq!(ask(), judged);
     Sides::new(move || black_box(&case).run(black_box(d)), ask)
 }

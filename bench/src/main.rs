@@ -4,7 +4,11 @@
 //!
 //! Cases of widths up to 64 have the names that they had when rows were one word; those of a width
 //! of 255 stand beside them with `w 255` in their names.
+//!
+//! Built with CALLBOARD_BEFORE, the folder of another archive, it times that too: the last column
+//! is how many times as long as the port it took.
 
+mod before;
 mod clock;
 mod coverage;
 mod faults;

@@ -137,7 +137,7 @@ impl Site {
 
 fn policy(
     site: Site,
-    entry: impl Fn(PolicyInput, &mut [Row]) -> Result<Choice, Refusal> + 'static,
+    entry: impl Fn(PolicyInput, &mut [Row]) -> Result<Choice, Refusal> + Clone + 'static,
 ) -> Sides {
     let case = site.case();
     let mut rows = vec![EMPTY; site.n.into()];

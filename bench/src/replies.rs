@@ -81,6 +81,7 @@ fn tally(n: u8, f: u8, most: u8) -> Sides {
     )
 }
 
+#[derive(Clone)]
 struct Replies {
     n: u8,
     quorum: u8,

@@ -3,7 +3,7 @@
 use std::hint::black_box;
 use std::time::Duration;
 
-use crate::clock;
+use crate::{before, clock};
 
 /// All cases are timed once in each round, so that a while of load falls on a part of the samples
 /// of each and not on all of one. An odd number.
@@ -54,8 +54,7 @@ impl Case {
 
     pub fn prepare(self) -> Prepared {
         let mut sides = (self.make)();
-        sides.rust.warm_up();
-        sides.port.warm_up();
+        sides.warm_up();
         Prepared {
             name: self.name,
             target: self.target,
@@ -85,45 +84,69 @@ impl Prepared {
 
     pub fn measured(self) -> Measured {
         let (rust, port) = (self.sides.rust.taken, self.sides.port.taken);
+        let ratio = |side: &[f64]| median(side.iter().zip(&port).map(|(side, port)| side / port));
         Measured {
             name: self.name,
             target: self.target,
             beside: self.beside,
-            ratio: median(rust.iter().zip(&port).map(|(rust, port)| rust / port)),
+            ratio: ratio(&rust),
+            before: self.sides.before.map(|side| ratio(&side.taken)),
             rust: median(rust),
             port: median(port),
         }
     }
 }
 
-/// The two that are compared.
+/// The two that are compared, and the port before if there is one with all that the case calls.
 pub struct Sides {
     rust: Side,
     port: Side,
+    before: Option<Side>,
 }
 
 impl Sides {
-    pub fn new<R, P>(rust: impl FnMut() -> R + 'static, port: impl FnMut() -> P + 'static) -> Self {
+    pub fn new<R, P>(
+        rust: impl FnMut() -> R + 'static,
+        port: impl FnMut() -> P + Clone + 'static,
+    ) -> Self {
         Sides {
             rust: Side::new(rust),
+            before: before::IS_THERE.then(|| Side::new(port.clone())),
             port: Side::new(port),
         }
     }
 
+    fn warm_up(&mut self) {
+        self.rust.warm_up();
+        self.port.warm_up();
+        self.before
+            .take_if(|side| !before::answers(|| side.warm_up()));
+    }
+
     /// How many pairs of samples a round has: an odd number, so that there is a median.
     fn pairs(&mut self) -> u128 {
-        let pair = self.rust.sample() + self.port.sample();
+        let before = self.before.as_mut();
+        let before = before.map_or(Duration::ZERO, |side| before::ask(|| side.sample()));
+        let pair = self.rust.sample() + self.port.sample() + before;
         (ROUND.as_nanos() / pair.as_nanos()).min(MOST) | 1
     }
 
-    /// Takes a sample of each, every other time the port's first.
+    /// Takes a sample of each, every other time the Rust's last.
     fn take_pair(&mut self) {
         if self.rust.taken.len().is_multiple_of(2) {
             self.rust.take();
             self.port.take();
+            self.take_before();
         } else {
+            self.take_before();
             self.port.take();
             self.rust.take();
+        }
+    }
+
+    fn take_before(&mut self) {
+        if let Some(side) = &mut self.before {
+            before::ask(|| side.take());
         }
     }
 }
@@ -190,6 +213,8 @@ pub struct Measured {
     pub rust: f64,
     pub port: f64,
     pub ratio: f64,
+    /// How many times as long as the port the port before took.
+    pub before: Option<f64>,
 }
 
 impl Measured {

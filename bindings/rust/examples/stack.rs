@@ -192,6 +192,9 @@ fn layouts(empty: usize, n: u64) {
     print(&format!("covers n {n}"), empty, || {
         black_box(callboard::covers(n, d, WIDTH, everyone, &held, &faults).unwrap());
     });
+    print(&format!("rows_united n {n}"), empty, || {
+        black_box(callboard::rows_united(n, d, WIDTH, everyone, &held, &faults).unwrap());
+    });
     print(&format!("survived_by n {n}"), empty, || {
         black_box(callboard::survived_by(n, everyone, &faults).unwrap());
     });

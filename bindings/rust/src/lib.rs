@@ -142,6 +142,33 @@ pub fn covers(
     Ok(value(answer)? != 0)
 }
 
+/// How many rows the walk of coverage unites under the first listed set: it takes the rows heard
+/// outside the set, those of most shards first and equal ones by rising replica, until d distinct
+/// shards are together or none is left.
+pub fn rows_united(
+    n: u64,
+    d: u64,
+    w: u64,
+    heard: u64,
+    rows: &[Row],
+    faults: &[u64],
+) -> Result<u64, Refusal> {
+    let words = rows.as_flattened();
+    // SAFETY: the tables are lent for the call, with their lengths.
+    value(unsafe {
+        raw::callboard_rows_united(
+            n,
+            d,
+            w,
+            heard,
+            words.as_ptr(),
+            words.len(),
+            faults.as_ptr(),
+            faults.len(),
+        )
+    })
+}
+
 /// Whether some listed set contains every replica that was not heard.
 pub fn survived_by(n: u64, heard: u64, faults: &[u64]) -> Result<bool, Refusal> {
     // SAFETY: the list is lent for the call, with its length.

@@ -129,6 +129,17 @@ unsafe extern "C" {
         faults_len: usize,
     ) -> Answer;
 
+    pub fn callboard_rows_united(
+        n: u64,
+        d: u64,
+        w: u64,
+        heard: u64,
+        rows: *const u64,
+        rows_len: usize,
+        faults: *const u64,
+        faults_len: usize,
+    ) -> Answer;
+
     pub fn callboard_survived_by(
         n: u64,
         heard: u64,

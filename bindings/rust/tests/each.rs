@@ -137,6 +137,27 @@ fn coverage() {
 }
 
 #[test]
+fn united_rows() {
+    let united = |heard, rows: &[Row], first| rows_united(3, 2, 3, heard, rows, &[first, 0]);
+    assert_eq!(united(0b111, &low([1, 2, 4]), 0b001), Ok(2));
+    // a row of two shards is first, and settles it
+    assert_eq!(united(0b111, &low([1, 2, 6]), 0b001), Ok(1));
+    assert_eq!(united(0b111, &low([1, 2, 6]), 0b100), Ok(2));
+    // the whole order where it has too few, an empty row in it
+    assert_eq!(united(0b111, &low([2, 2, 2]), 0), Ok(3));
+    assert_eq!(united(0b111, &low([0, 2, 2]), 0), Ok(3));
+    assert_eq!(united(0, &low([1, 2, 4]), 0), Ok(0));
+    assert_eq!(united(0b011, &low([1, 2, 4]), 0b011), Ok(0));
+    let wide = |w, rows: &[Row]| rows_united(3, 2, w, 0b111, rows, &ANY_ONE);
+    assert_eq!(wide(255, &[one(63), one(64), one(254)]), Ok(2));
+    assert_eq!(wide(256, &low([1, 2, 4])), Err(Refusal(4)));
+    assert_eq!(wide(254, &[one(63), one(64), one(254)]), Err(Refusal(16)));
+    assert_eq!(united(0b1000, &low([1, 2, 4]), 0), Err(Refusal(16)));
+    assert_eq!(united(0b111, &low([1, 2]), 0), Err(Refusal(17)));
+    assert_eq!(united(0b111, &low([1, 2, 4]), 0b111), Err(Refusal(17)));
+}
+
+#[test]
 fn survival() {
     assert_eq!(survived_by(3, 0b110, &ANY_ONE), Ok(true));
     assert_eq!(survived_by(3, 0b100, &ANY_ONE), Ok(false));

@@ -27,6 +27,7 @@ fn main(rt: HostRuntime) -> io::Result<()> {
     file(&rt, &out, alloc, "unreliability", replay::is_unreliability)?;
     file(&rt, &out, alloc, "faults", replay::is_faults)?;
     file(&rt, &out, alloc, "covers", replay::is_covers)?;
+    file(&rt, &out, alloc, "united", replay::is_united)?;
     file(&rt, &out, alloc, "survived", replay::is_survived)?;
     file(&rt, &out, alloc, "layout", replay::is_layout)?;
     file(&rt, &out, alloc, "commits", replay::is_commits)?;

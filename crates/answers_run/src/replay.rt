@@ -54,6 +54,17 @@ pub fn is_covers(_: Global, mut line: Line) -> Result<bool, AllocError> {
     Ok(line.is_answer(r))
 }
 
+pub fn is_united(_: Global, mut line: Line) -> Result<bool, AllocError> {
+    let n = line.size();
+    let d = line.size();
+    let w = line.size();
+    let heard = line.number();
+    let rows = line.slice();
+    let faults = line.slice();
+    let r = callboard::callboard_rows_united(n, d, w, heard, rows, faults);
+    Ok(line.is_answer(r))
+}
+
 pub fn is_survived(_: Global, mut line: Line) -> Result<bool, AllocError> {
     let n = line.size();
     let heard = line.number();

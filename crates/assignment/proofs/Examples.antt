@@ -6,6 +6,7 @@ use Prim.Native.Nat.{ℕ, ◌*◌}
 use lib.ListN.{length, replicate}
 use lib.Ieee.{binary64, add, mul, div, of_int, of_bits, to_bits, le}
 use Rattle.lists.specs.Below.{some_below, those_below, run_from, each_below}
+use Rattle.lists.specs.Sort.{by_key}
 use Rattle.bitmap.specs.Mask.{count, mask_below, gather}
 use Rattle.floats.specs.Floats.{is_finite, total_le}
 use Rattle.rows.specs.Row.{value, words_of, spelled}
@@ -20,7 +21,7 @@ use Rattle.times.specs.declared.PeerRecord.{PeerRecord}
 use Rattle.times.specs.Times.{predict_of, settled, reply_time, time_at, shard_length, silent, times_of}
 use Rattle.times.proofs.Worked.{one, two, three, minus_zero, infinity, no_number}
 use Rattle.times.proofs.Worked as Worked
-use Rattle.trimming.specs.Order.{slower, peers_of, trim_order}
+use Rattle.trimming.specs.Order.{peers_of, trim_order}
 use Rattle.trimming.specs.Trimming.{keeps, tried, trimmed_in, trimmed}
 use Rattle.candidates.specs.Search.{run_at, answered_at, loads_at, commits_at, first_time}
 use Rattle.assignment.specs.Plans.{Plan, loads_for, plan_of, pick_refusal, pick_of, planned, copies_refusal, full_copies_of, copies_written}
@@ -161,7 +162,7 @@ sheet =
     ∷ []
 
 picks : map (λ (l : Line). told (pick_of l.n l.own l.quorum l.d l.total l.size l.peers (of_bits binary64 l.penalty) l.faults l.rows)) sheet ≡ map (λ (l : Line). l.says) sheet
-unfolding line sheet pick_of pick_refusal peers_fit some_below is_population is_shards is_quorum is_fault_list plan_of first_time commits_at answered_at loads_at run_at run_from mask_below each_below loads_for shard_length times_of time_at reply_time settled predict_of is_finite add mul div of_int of_bits to_bits le total_le layout_commits commits is_covered leaves union_of count width_of row_for rows_of gather trimmed trimmed_in tried keeps trim_order peers_of those_below slower
+unfolding line sheet pick_of pick_refusal peers_fit some_below is_population is_shards is_quorum is_fault_list plan_of first_time commits_at answered_at loads_at run_at run_from mask_below each_below loads_for shard_length times_of time_at reply_time settled predict_of is_finite add mul div of_int of_bits to_bits le total_le layout_commits commits is_covered leaves union_of count width_of row_for rows_of gather trimmed trimmed_in tried keeps trim_order peers_of those_below by_key
 picks = refl
 
 -- the lent table at exit, of a quorum and the peers: a plan's rows; and what it held, where both peers are silent, and where the quorum is
@@ -171,7 +172,7 @@ table quorum peers = planned (pick_of 3 0 quorum 2 (AtMost 3) 2097152 peers (of_
 
 tables : (table 2 both ∷ table 2 (silent ∷ silent ∷ silent ∷ []) ∷ table 4 both ∷ [])
     ≡ ((3 ∷ 0 ∷ 0 ∷ 0 ∷ 1 ∷ 0 ∷ 0 ∷ 0 ∷ 2 ∷ 0 ∷ 0 ∷ 0 ∷ []) ∷ replicate 12 9 ∷ replicate 12 9 ∷ [])
-unfolding words_of spelled pick_of pick_refusal peers_fit some_below is_population is_shards is_quorum is_fault_list plan_of first_time commits_at answered_at loads_at run_at run_from mask_below each_below loads_for shard_length times_of time_at reply_time settled predict_of is_finite add mul div of_int of_bits to_bits le total_le layout_commits commits is_covered leaves union_of count width_of row_for rows_of gather trimmed trimmed_in tried keeps trim_order peers_of those_below slower
+unfolding words_of spelled pick_of pick_refusal peers_fit some_below is_population is_shards is_quorum is_fault_list plan_of first_time commits_at answered_at loads_at run_at run_from mask_below each_below loads_for shard_length times_of time_at reply_time settled predict_of is_finite add mul div of_int of_bits to_bits le total_le layout_commits commits is_covered leaves union_of count width_of row_for rows_of gather trimmed trimmed_in tried keeps trim_order peers_of those_below by_key
 tables = refl
 
 -- ---- `full_copies`

@@ -9,6 +9,7 @@ ghost use Rattle.profiles.specs.Unreliability.{unreliability_of};
 ghost use Rattle.profile_text.specs.ProfileText.{profile_of};
 ghost use Rattle.faults.specs.FaultList.{fault_list_of, fault_words};
 ghost use Rattle.coverage.specs.Coverage.{covers_of, survived_of};
+ghost use Rattle.coverage.specs.Walk.{rows_united_of};
 ghost use Rattle.layout.specs.Layout.{layout_rows_of, rows_written, layout_commits_of, trial_written};
 ghost use Rattle.assignment.specs.Plans.{planned, full_copies_of, copies_written};
 ghost use Rattle.adaptive.specs.Floor.{min_shards_of};
@@ -69,6 +70,21 @@ pub extern "C" fn callboard_covers(
     ensures { result ≡ to_flag (covers_of n d w heard rows.now faults.now) }
 {
     callboard::callboard_covers(n, d, w, heard, rows, faults)
+}
+
+// The value is how many rows the walk unites.
+#[unsafe(no_mangle)]
+pub extern "C" fn callboard_rows_united(
+    n: usize,
+    d: usize,
+    w: usize,
+    heard: u64,
+    rows: &[u64],
+    faults: &[u64],
+) -> Answer
+    ensures { result ≡ to_answer (rows_united_of n d w heard rows.now faults.now) }
+{
+    callboard::callboard_rows_united(n, d, w, heard, rows, faults)
 }
 
 #[unsafe(no_mangle)]

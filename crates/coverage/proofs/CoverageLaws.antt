@@ -3,10 +3,10 @@
 -- Assumes nothing.
 use Rattle.std.specs.Prelude.{◌≡◌, ◌↔◌, Bool, true, false, not, cond, ◌&&◌, List, eqb, leb, length, get_or}
 use Rattle.std.proofs.Math.Path.{refl, ap}
-use Rattle.std.proofs.Common.{◌∙◌, not-suc-le-zero, eq-or-lt_of_le, le_of_suc-le-suc, arith, eqb-true, eq-eqb, ne_eqb, leb-true, le-leb, ltb-true}
+use Rattle.std.proofs.Common.{◌∙◌, not-suc-le-zero, eq-or-lt_of_le, le_of_suc-le-suc, arith, le_trans, eqb-true, eq-eqb, ne_eqb, leb-true, le-leb, ltb-true}
 use Rattle.std.proofs.Math.Logic.{⊎_elim}
 use Rattle.std.proofs.Math.Bool.{and-eq-true_iff}
-use Prim.Native.Nat.{ℕ, zero, suc, ◌^◌, ◌<◌}
+use Prim.Native.Nat.{ℕ, zero, suc, ◌^◌, ◌≤◌, ◌<◌}
 use Rattle.std.proofs.Math.Nat.{le_step, le_refl}
 use Rattle.std.proofs.Math.Decide.{ℕ_discrete}
 use Rattle.std.specs.Int.Bits.{bit_or}
@@ -17,6 +17,7 @@ use Rattle.lists.specs.AllLaws.{all_means, any_means}
 use Rattle.bitmap.specs.Mask.{bit, has_bit, all_below, count}
 use Rattle.rows.specs.Row.{row_in}
 use Rattle.bitmap.specs.MaskLaws.{Within, bit_lt, bit_none, bit_of_or, same_bits, full, full_bit}
+use Rattle.bitmap.specs.CountLaws.{count_within}
 use Rattle.bitmap.specs.Members.{Many, count_means, many_map}
 use Rattle.refusals.specs.Limits.{is_mask}
 use Rattle.refusals.specs.OutcomeLaws.{accepted_means}
@@ -127,13 +128,20 @@ commits_means n quorum d heard row faults =
 
 -- ---- more heard, more shards in the rows, a smaller set: none of these loses a shard
 
-pub leaves_grows : (n d heard heard' : ℕ) (row row' : ℕ → ℕ) (fault fault' : ℕ) → Within heard heard' → ((s : ℕ) → Within (row s) (row' s)) → Within fault' fault
-    → leaves n d heard row fault ≡ true → leaves n d heard' row' fault' ≡ true
-leaves_grows n d heard heard' row row' fault fault' more wider less e =
-    (leaves_means n d heard' row' fault').1 (many_map grown ((leaves_means n d heard row fault).0 e))
+-- the shards that are left
+pub union_grows : (n heard heard' : ℕ) (row row' : ℕ → ℕ) (fault fault' : ℕ) → Within heard heard' → ((s : ℕ) → Within (row s) (row' s)) → Within fault' fault
+    → Within (union_of row heard fault n) (union_of row' heard' fault' n)
+union_grows n heard heard' row row' fault fault' more wider less k =
+    within (bit (union_of row heard fault n) k) (bit_lt (union_of row heard fault n) k)
+    (λ e. (union_means row' heard' fault' k n).1 (grown ((union_means row heard fault k n).0 e)))
   where
-    grown : (k : ℕ) → Held row heard fault n k → Held row' heard' fault' n k
-    grown k h =
+    within : (a : ℕ) → a < 2 → (a ≡ 1 → bit (union_of row' heard' fault' n) k ≡ 1) → a ≤ bit (union_of row' heard' fault' n) k
+    within zero l f = omega arith
+    within (suc zero) l f = omega (arith, f refl)
+    within (suc (suc a)) l f = absurd (omega (arith, l))
+
+    grown : Held row heard fault n k → Held row' heard' fault' n k
+    grown h =
         let s = h.replica in
         record {
           replica = s;
@@ -142,6 +150,14 @@ leaves_grows n d heard heard' row row' fault fault' more wider less e =
           outside = omega (arith, h.outside, less s);
           holds = omega (arith, h.holds, wider s k, bit_lt (row' s) k);
         }
+
+pub leaves_grows : (n d heard heard' : ℕ) (row row' : ℕ → ℕ) (fault fault' : ℕ) → Within heard heard' → ((s : ℕ) → Within (row s) (row' s)) → Within fault' fault
+    → leaves n d heard row fault ≡ true → leaves n d heard' row' fault' ≡ true
+unfolding leaves
+leaves_grows n d heard heard' row row' fault fault' more wider less e =
+    le-leb d (count (union_of row' heard' fault' n))
+    (le_trans (leb-true d (count (union_of row heard fault n)) e)
+    (count_within (union_of row heard fault n) (union_of row' heard' fault' n) (union_grows n heard heard' row row' fault fault' more wider less)))
 
 -- what survives a set survives every set within it
 pub leaves_within : (n d heard : ℕ) (row : ℕ → ℕ) (fault f : ℕ) → Within f fault → leaves n d heard row fault ≡ true → leaves n d heard row f ≡ true

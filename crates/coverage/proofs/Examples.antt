@@ -3,11 +3,14 @@ use mathlib.Core.Path.{◌≡◌, refl}
 use mathlib.Core.Bool.{Bool, true, false}
 use mathlib.Core.List.{List, [], ◌∷◌, map}
 use Prim.Native.Nat.{ℕ, ◌-◌, ◌^◌}
+use lib.ListN.{get_or}
 use Rattle.bitmap.specs.Mask.{count}
 use Rattle.refusals.specs.Outcome.{Outcome, refused, accepted}
 use Rattle.refusals.specs.Limits.{is_population, is_shards, is_fault_list}
-use Rattle.lists.specs.Below.{each_below}
+use Rattle.lists.specs.Below.{those_below, each_below}
+use Rattle.lists.specs.Sort.{by_key}
 use Rattle.rows.specs.Row.{value, words_of, row_in, rows_in, spelled}
+use Rattle.coverage.specs.Walk.{heard_order, walk_order}
 use Rattle.coverage.specs.Coverage.{union_of, leaves, is_covered, covers_refusal, covers_of, survived_refusal, survived_of}
 
 -- one of three replicas fails: the masks of 0, of 1 and of 2
@@ -77,6 +80,12 @@ parts = refl
 empty : map (λ (heard : ℕ). is_covered 3 0 heard (λ s. 0) ones) (1 ∷ 0 ∷ []) ≡ true ∷ false ∷ []
 unfolding ones is_covered leaves union_of count
 empty = refl
+
+-- ---- the order of the walk: those heard outside the set, fuller rows first, and of rows as full the one with the lower number
+orders : map (λ (l : List ℕ). walk_order 4 (get_or l 0 0) (row_in (spelled (1 ∷ 7 ∷ 6 ∷ 3 ∷ []))) (get_or l 1 0)) ((15 ∷ 0 ∷ []) ∷ (15 ∷ 2 ∷ []) ∷ (13 ∷ 4 ∷ []) ∷ (6 ∷ 6 ∷ []) ∷ [])
+    ≡ (1 ∷ 2 ∷ 3 ∷ 0 ∷ []) ∷ (2 ∷ 3 ∷ 0 ∷ []) ∷ (3 ∷ 0 ∷ []) ∷ [] ∷ []
+unfolding value words_of spelled row_in rows_in each_below walk_order heard_order those_below by_key count
+orders = refl
 
 -- ---- `survived_by`
 record Reply : Type 0 where

@@ -3,4 +3,7 @@ pub mod Parts
 pub mod Entries
 pub mod Examples
 pub mod CoverageLaws
+pub mod WalkLaws
+pub mod Walks
+pub mod Orders
 pub mod RefusalLaws

@@ -1,2 +1,5 @@
--- The commit rule and the discard rule, and what they mean in shards and replicas.
+-- The commit rule and the discard rule, the walk of coverage, and what they mean in shards and replicas.
 pub mod Coverage
+pub mod Walk
+pub mod Ranks
+pub mod Walks

@@ -4,11 +4,16 @@
 ghost use Rattle.std.specs.Prelude.{◌≡◌, ◌*◌, ◌≤◌, length};
 ghost use Rattle.std.specs.List.{list_all, list_any};
 ghost use Rattle.rows.specs.Row.{row_in};
+ghost use Rattle.refusals.specs.Limits.{most_shards};
 ghost use Rattle.refusals.specs.Refused.{refusal_of, outcome_of};
-ghost use Rattle.coverage.specs.Coverage.{union_of, leaves, RowsBelow, is_covered, commits, covers_refusal, covers_of, completes, is_survived, survived_refusal, survived_of};
+ghost use Rattle.coverage.specs.Walk.{rows_united_of};
+ghost use Rattle.coverage.specs.Coverage.{leaves, RowsBelow, is_covered, commits, covers_refusal, covers_of, completes, is_survived, survived_refusal, survived_of};
 
 use refusals::{Refusal, unless};
-use rows::{Row, ShardSet};
+
+mod walk;
+
+use walk::Rank;
 
 // What the replicas heard hold of a value: there is a row, of four words, for each of the population, and no shard in them at or above the
 // width.
@@ -18,6 +23,8 @@ pub struct Holdings<'a> {
     pub width: usize,
     pub heard: u64,
     pub rows: &'a [u64],
+    ghost small: { population ≤ 16 },
+    ghost narrow: { width ≤ most_shards },
     ghost whole: { population * 4 ≤ length rows.now },
     ghost below: { RowsBelow population width (row_in rows.now) },
 }
@@ -43,33 +50,10 @@ impl Holdings<'_> {
     fn all_leave(&self, d: usize, faults: &[u64]) -> bool
         ensures { result ≡ list_all (leaves self.now.population d self.now.heard (row_in self.now.rows.now)) faults.now }
     {
-        faults.iter().all(|fault| self.leaves(d, *fault))
-    }
-
-    // Whether at least d distinct shards are left without the set. Of a width of at most 64 the first words are the rows.
-    #[tactic(auto, unfolding(crate::specs::Coverage::leaves))]
-    fn leaves(&self, d: usize, fault: u64) -> bool
-        ensures { result ≡ leaves self.now.population d self.now.heard (row_in self.now.rows.now) fault }
-    {
-        if self.width <= 64 {
-            return d <= self.united::<u64>(fault).count();
-        }
-        d <= self.united::<Row>(fault).count()
-    }
-
-    // The shards that the replicas heard outside the set hold, once each. `left` is the mask of these replicas from s on, so its lowest bit
-    // tells whether s is one of them. No branch on it: which way one would go can't be foreseen.
-    #[tactic(auto, unfolding(crate::specs::Coverage::union_of))]
-    fn united<S: ShardSet>(&self, fault: u64) -> S
-        ensures { S.members result ≡ union_of (S.read self.now.rows.now) self.now.heard fault self.now.population }
-    {
-        let mut acc = S::none();
-        let mut left = self.heard & !fault;
-        for s in 0..self.population {
-            acc = acc.union(S::read_row(self.rows, s).taken(left % 2));
-            left /= 2;
-        }
-        acc
+        // A copy, since what is behind the reference would be read again after each write to the array.
+        let holdings = *self;
+        let mut room = [Rank::none(); 16];
+        holdings.in_order(d, &mut room).all_leave(faults)
     }
 }
 
@@ -93,6 +77,31 @@ pub fn covers(
         rows,
     };
     Ok(holdings.is_covered(d, faults))
+}
+
+// How many rows are united under the list's first set: those heard outside it are taken fuller rows first, then by number, until they have d
+// distinct shards.
+#[tactic(auto, using(refusals::proofs::Entered::entered), unfolding(crate::specs::Walk::rows_united_of))]
+pub fn rows_united(
+    n: usize,
+    d: usize,
+    w: usize,
+    heard: u64,
+    rows: &[u64],
+    faults: &[u64],
+) -> Result<usize, Refusal>
+    ensures { outcome_of result ≡ rows_united_of n d w heard rows.now faults.now }
+{
+    check_covers(n, d, w, heard, rows, faults)?;
+    let holdings = Holdings {
+        population: n,
+        width: w,
+        heard,
+        rows,
+    };
+    let mut room = [Rank::none(); 16];
+    let first = bitmap::word_at(faults, 0);
+    Ok(holdings.in_order(d, &mut room).under(first).rows)
 }
 
 // The discard rule: those heard include all survivors of some listed set.

@@ -6,5 +6,6 @@ pub mod BelowLaws
 pub mod ListedLaws
 pub mod Sort
 pub mod SortLaws
+pub mod KeyLaws
 pub mod First
 pub mod FirstLaws

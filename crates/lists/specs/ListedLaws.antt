@@ -1,15 +1,17 @@
 -- What is in a list: the elements that pass a test, lists put together, and lists in which no element stands twice. Assumes nothing.
 use Rattle.std.specs.Prelude.{◌≡◌, refl, ◌↔◌, ◌⊎◌, Bool, true, false, cond}
-use Rattle.std.proofs.Common.{sym, ap, ◌∙◌, inl, inr, true≢false, arith}
+use Rattle.std.proofs.Common.{sym, ap, subst, ◌∙◌, inl, inr, true≢false, arith}
 use Rattle.std.proofs.Math.Bool.{and-eq-true_iff}
 use mathlib.Core.List.Memᴰ
-use mathlib.Core.List.{List, [], ◌∷◌, ◌++◌, Memᴰ}
+use mathlib.Core.List.{List, [], ◌∷◌, ◌++◌, append-nil, Memᴰ}
 use Prim.Native.Nat.{ℕ, zero, suc, ◌<◌}
 use Rattle.std.specs.List.{list_all, filter}
 use Rattle.lists.specs.All.{AllOf, Distinct}
 use Rattle.lists.specs.AllLaws.{all_of_listed}
-use Rattle.lists.specs.Below.{each_below}
-use Rattle.lists.specs.BelowLaws.{each_below_listed}
+use Rattle.lists.specs.Below.{those_below, each_below}
+use Rattle.lists.specs.BelowLaws.{those_below_means, each_below_listed}
+use Rattle.lists.specs.Sort.{insert_by, sort_onto_by, sorted_by}
+use Rattle.lists.specs.SortLaws.{AtLeast, Ordered, placed_where, insert_forth}
 
 -- ---- where an element stands
 module _ {A : Type 0} where
@@ -93,6 +95,24 @@ module _ {A : Type 0} (p : A → Bool) where
       go true ih = (passing_all_of (λ y. y ≡ x → ⊥) xs h.0, ih)
       go false ih = ih
 
+  -- they stay in order
+  module _ (le : A → A → Bool) where
+    passing_at_least : (z : A) (xs : List A) → AtLeast le z xs → AtLeast le z (filter p xs)
+    passing_at_least z [] h = tt
+    passing_at_least z (x ∷ xs) h = go (p x) (passing_at_least z xs h.1)
+      where
+        go : (b : Bool) → AtLeast le z (filter p xs) → AtLeast le z (cond b (x ∷ filter p xs) (filter p xs))
+        go true ih = (h.0, ih)
+        go false ih = ih
+
+    pub passing_ordered : (xs : List A) → Ordered le xs → Ordered le (filter p xs)
+    passing_ordered [] h = tt
+    passing_ordered (x ∷ xs) h = go (p x) (passing_ordered xs h.1)
+      where
+        go : (b : Bool) → Ordered le (filter p xs) → Ordered le (cond b (x ∷ filter p xs) (filter p xs))
+        go true ih = (passing_at_least x xs h.0, ih)
+        go false ih = ih
+
 -- ---- no element twice
 module _ {A : Type 0} where
   all_of_more : (F : A → Type 0) (xs : List A) (x : A) → AllOf F xs → F x → AllOf F (xs ++ (x ∷ []))
@@ -125,3 +145,36 @@ module _ {A : Type 0} where
   each_below_distinct f (suc k) h =
       distinct_more (each_below f k) (f k) (each_below_distinct f k (λ i j l g. h i j l (omega arith)))
       (λ m. let p = (each_below_listed f k (f k)).0 m in h p.place k p.small (omega arith) p.here)
+
+  -- a sort has each element as often as the list
+  module _ (le : A → A → Bool) where
+    insert_distinct : (x : A) (l : List A) → Distinct l → (Memᴰ x l → ⊥) → Distinct (insert_by le x l)
+    insert_distinct x [] d n = (tt, tt)
+    insert_distinct x (y ∷ ys) d n =
+        let ih = insert_distinct x ys d.1 (λ m. n (Memᴰ.tail m)) in
+        placed_where le x y ys Distinct
+        (λ e. (listed_all_of (λ z. z ≡ y → ⊥) (insert_by le x ys) (λ z m q. apart (insert_forth le x z ys m) q), ih))
+        (λ e. (listed_all_of (λ z. z ≡ x → ⊥) (y ∷ ys) (λ z m q. n (subst (λ (u : A). Memᴰ u (y ∷ ys)) q m)), d))
+      where
+        apart : {z : A} → (z ≡ x) ⊎ Memᴰ z ys → z ≡ y → ⊥
+        apart (inl e) q = n (Memᴰ.head (sym e ∙ q))
+        apart {z} (inr r) q = all_of_listed (λ u. u ≡ y → ⊥) ys d.0 z r q
+
+    onto_distinct : (acc xs : List A) → Distinct acc → Distinct xs → ((z : A) → Memᴰ z acc → Memᴰ z xs → ⊥) → Distinct (sort_onto_by le acc xs)
+    onto_distinct acc [] a d n = a
+    onto_distinct acc (x ∷ xs) a d n =
+        onto_distinct (insert_by le x acc) xs (insert_distinct x acc a (λ m. n x m (Memᴰ.head refl))) d.1
+        (λ z m r. elim (insert_forth le x z acc m) [ inl e ↦ all_of_listed (λ y. y ≡ x → ⊥) xs d.0 z r e | inr k ↦ n z k (Memᴰ.tail r) ])
+
+    pub sorted_distinct : (xs : List A) → Distinct xs → Distinct (sorted_by le xs)
+    sorted_distinct xs d = onto_distinct [] xs tt d (λ z m r. Memᴰ.not-nil m)
+
+-- the numbers below k that pass, each once
+pub those_below_distinct : (f : ℕ → Bool) (k : ℕ) → Distinct (those_below f k)
+unfolding those_below
+those_below_distinct f zero = tt
+those_below_distinct f (suc k) = go (f k) (those_below_distinct f k)
+  where
+    go : (b : Bool) → Distinct (those_below f k) → Distinct (those_below f k ++ cond b (k ∷ []) [])
+    go true d = distinct_more (those_below f k) k d (λ m. omega (arith, ((those_below_means f k k).0 m).0))
+    go false d = rw append-nil d

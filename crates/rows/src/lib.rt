@@ -96,9 +96,10 @@ impl ShardSet for u64 {
         bitmap::count(self)
     }
 
+    // The sign of a word is spread over it: a product, or a mask made by one, becomes a branch here.
     #[inline]
     fn taken(self, flag: u64) -> u64 {
-        self * flag
+        self & ((flag << 63).cast_signed() >> 63).cast_unsigned()
     }
 
     #[inline]

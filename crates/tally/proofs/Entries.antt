@@ -7,6 +7,7 @@ use lib.ListN.{length}
 use lib.Seq.{length-sets}
 use Rattle.rows.specs.Row.{row_in, with_row}
 use Rattle.std.specs.Prelude.{Result, Ok}
+use Rattle.refusals.specs.Limits.{most_shards}
 use Rattle.refusals.specs.Refused.{refusal_of}
 use Rattle.refusals.specs.declared.Refusal.{Refusal}
 use Rattle.coverage.specs.Coverage.{RowsBelow}
@@ -27,8 +28,8 @@ module _ (t : Tally) (r : Reply) (check : Result Unit Refusal) (e : refusal_of c
 
   -- the rows with the reply counted
   pub rows_fit : (rows : List ℕ) → rows ≡ with_row t.rows r.source (row_with t.heard (row_in t.rows r.source) r.source r.row) → length t.rows ≡ 64
-      → (t.population * 4 ≤ length rows) × RowsBelow t.population t.width (row_in rows)
+      → (t.population ≤ 16) × (t.width ≤ most_shards) × (t.population * 4 ≤ length rows) × RowsBelow t.population t.width (row_in rows)
   unfolding noted
   rows_fit rows q long =
       let s = (countable t r).0 passed in
-      rw q (simp length-sets (omega (arith, long, s.opening.population)), noted_rows t r passed long)
+      rw q (s.opening.population.1, s.opening.shards.2, simp length-sets (omega (arith, long, s.opening.population)), noted_rows t r passed long)

@@ -6,13 +6,14 @@ use Prim.Native.Nat.{ℕ}
 use lib.IntN.{pos}
 use lib.Ieee.{Float, inf, fin, binary64, of_bits}
 use Rattle.lists.specs.Below.{those_below, each_below}
+use Rattle.lists.specs.Sort.{by_key}
 use Rattle.floats.specs.Floats.{total_le}
 use Rattle.bitmap.specs.Mask.{gather, count}
 use Rattle.coverage.specs.Coverage.{union_of, leaves, is_covered, commits}
 use Rattle.layout.specs.declared.TotalShards.{TotalShards}
 use Rattle.layout.specs.declared.TotalShards.TheVariants.{Exactly, AtMost}
 use Rattle.layout.specs.Layout.{width_of, row_for, rows_of, layout_commits}
-use Rattle.trimming.specs.Order.{slower, peers_of, trim_order}
+use Rattle.trimming.specs.Order.{peers_of, trim_order}
 use Rattle.trimming.specs.Trimming.{keeps, tried, trimmed_in, trimmed}
 
 -- ---- the order
@@ -74,7 +75,7 @@ orders =
     ∷ []
 
 ordered : map (λ (l : Peers). trim_order l.n l.own l.d l.times) orders ≡ map (λ (l : Peers). l.says) orders
-unfolding ms minus silence of_one peers orders trim_order peers_of those_below slower total_le of_bits
+unfolding ms minus silence of_one peers orders trim_order peers_of those_below by_key total_le of_bits
 ordered = refl
 
 -- ---- trimmed loads

@@ -1,3 +1,4 @@
--- The site sheet's starred lines, computed by the checker, and the order of the refusals over all entries.
+-- The site sheet's starred lines and counts of coverage's walk, computed by the checker, and the order of the refusals over all entries.
 pub mod Sheet
+pub mod RowsUnited
 pub mod Order

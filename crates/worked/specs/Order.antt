@@ -23,6 +23,7 @@ use Rattle.callboard.specs.Interface.{plan_cases, choice_cases}
 pub data Call : Type 0 where
   unreliability : (n peer : ℕ) (p : Profile) → Call
   fault_list : (n f : ℕ) (p : Profile) (room : ℕ) → Call
+  -- and `rows_united`, whose cases are the same
   covers : (n d w heard : ℕ) (rows faults : List ℕ) → Call
   survived_by : (n heard : ℕ) (faults : List ℕ) → Call
   layout_rows : (n d : ℕ) (total : TotalShards) (loads rows : ℕ) → Call

@@ -6,6 +6,7 @@ use Prim.Native.String.{String}
 use Rattle.std.specs.Float.{binary64}
 use Rattle.std.specs.Float.Ieee.{add, mul, div, of_int, of_bits, to_bits, le}
 use Rattle.lists.specs.Below.{some_below, those_below, run_from, each_below, front}
+use Rattle.lists.specs.Sort.{by_key}
 use Rattle.bitmap.specs.Mask.{with_bit, all_below, count, mask_below, gather}
 use Rattle.rows.specs.Row.{value, words_of, row_in, rows_in, spelled}
 use Rattle.refusals.specs.Outcome.{Outcome, refused, accepted, and_then}
@@ -28,7 +29,7 @@ use Rattle.layout.specs.Layout.{width_of, row_for, rows_of, layout_commits, rows
 use Rattle.times.specs.declared.PeerRecord.{PeerRecord}
 use Rattle.times.specs.Times.{predict_of, settled, reply_time, time_at, shard_length, silent, times_of}
 use Rattle.times.proofs.Worked.{one, two, heard}
-use Rattle.trimming.specs.Order.{slower, peers_of, trim_order}
+use Rattle.trimming.specs.Order.{peers_of, trim_order}
 use Rattle.trimming.specs.Trimming.{keeps, tried, trimmed_in, trimmed}
 use Rattle.candidates.specs.Search.{run_at, answered_at, loads_at, commits_at, first_time}
 use Rattle.assignment.specs.Plans.{Plan, loads_for, plan_of, pick_refusal, pick_of}
@@ -158,6 +159,6 @@ unfolding sheet answer faults_for value words_of row_in rows_in spelled
     Family.family_of Family.is_sized Family.is_among Family.is_probable Family.times_of mul count
     covers_of covers_refusal is_fault_list is_covered leaves union_of commits
     pick_of pick_refusal peers_fit is_quorum plan_of first_time commits_at answered_at loads_at run_at run_from mask_below loads_for shard_length times_of time_at reply_time settled
-    predict_of is_finite add div of_int of_bits to_bits total_le layout_commits trimmed trimmed_in tried keeps trim_order peers_of slower
+    predict_of is_finite add div of_int of_bits to_bits total_le layout_commits trimmed trimmed_in tried keeps trim_order peers_of by_key
     gossip_of exclusions_left gossip_refusal walk turns round ring visit met
 sheet_holds = refl

@@ -1,2 +1,2 @@
-// The site sheet's starred lines. A table and a statement over its rows: no code.
+// The site sheet's starred lines, and counts of coverage's walk. Tables, and a statement over the rows of each: no code.
 #![tactic(auto)]

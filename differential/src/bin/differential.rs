@@ -20,6 +20,7 @@ use differential::entries::policy::{Choice, PolicyRows};
 use differential::entries::profile::ProfileText;
 use differential::entries::survived::Survived;
 use differential::entries::tally::{HandedIn, Replies};
+use differential::entries::united::RowsUnited;
 use differential::entries::unreliability::Unreliability;
 use differential::entry::{Entry, check};
 use differential::line::Line;
@@ -134,6 +135,7 @@ fn run_all() -> Result<(), Box<dyn Error>> {
         + run::<Unreliability>(&args)?
         + run::<FaultList>(&args)?
         + run::<Covers>(&args)?
+        + run::<RowsUnited>(&args)?
         + run::<Survived>(&args)?
         + run::<LayoutRows>(&args)?
         + run::<LayoutCommits>(&args)?

@@ -49,6 +49,7 @@ use differential::entries::policy::PolicyRows;
 use differential::entries::profile::ProfileText;
 use differential::entries::survived::Survived;
 use differential::entries::tally::Replies;
+use differential::entries::united::RowsUnited;
 use differential::entries::unreliability::Unreliability;
 use differential::entry::{Entry, Outcome, expected};
 use differential::report::Report;
@@ -169,6 +170,7 @@ fn main() -> Result<(), Box<dyn Error>> {
     store::<Unreliability>(dir, seed)?;
     store::<FaultList>(dir, seed)?;
     store::<Covers>(dir, seed)?;
+    store::<RowsUnited>(dir, seed)?;
     store::<Survived>(dir, seed)?;
     store::<LayoutRows>(dir, seed)?;
     store::<LayoutCommits>(dir, seed)?;

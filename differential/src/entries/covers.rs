@@ -28,7 +28,21 @@ pub struct Input {
 }
 
 impl Input {
-    fn damage(&mut self, rng: &mut Rng) {
+    /// One that is accepted.
+    pub fn random(rng: &mut Rng) -> Input {
+        let n = population(rng);
+        let (d, w) = shards(rng);
+        Input {
+            n,
+            d,
+            w,
+            heard: set(rng, n),
+            rows: rows(rng, n, w),
+            faults: faults(rng, n),
+        }
+    }
+
+    pub fn damage(&mut self, rng: &mut Rng) {
         match rng.below(7) {
             0 => self.n = rng.around(16),
             1 => self.d = rng.around(self.w),
@@ -40,7 +54,7 @@ impl Input {
     }
 
     /// The rows of those heard, as the Rust holds them.
-    fn acks(&self) -> Option<Vec<Option<Row>>> {
+    pub fn acks(&self) -> Option<Vec<Option<Row>>> {
         let right = self.rows.len() == row_words(self.n)
             && all_below(&[self.heard], self.n)
             && all_below(&self.faults, self.n)
@@ -105,16 +119,7 @@ impl Entry for Covers {
     }
 
     fn random(rng: &mut Rng) -> Input {
-        let n = population(rng);
-        let (d, w) = shards(rng);
-        let mut input = Input {
-            n,
-            d,
-            w,
-            heard: set(rng, n),
-            rows: rows(rng, n, w),
-            faults: faults(rng, n),
-        };
+        let mut input = Input::random(rng);
         while rng.once_in(3) {
             input.damage(rng);
         }

@@ -12,4 +12,5 @@ pub mod policy;
 pub mod profile;
 pub mod survived;
 pub mod tally;
+pub mod united;
 pub mod unreliability;

@@ -18,4 +18,4 @@ with_replica-heard-requires c =
 pub invariant_of-holdings : goal.invariant_of-holdings
 invariant_of-holdings c =
     let long : length c.args.t.rows ≡ 64 = search rules in
-    let h = rows_fit _ _ _ c.check_reply.ensures _ c.in_ok-check_reply.was _ c.note.ensures long in record { whole = h.0; below = h.1 }
+    let h = rows_fit _ _ _ c.check_reply.ensures _ c.in_ok-check_reply.was _ c.note.ensures long in record { small = h.0; narrow = h.1; whole = h.2; below = h.3 }

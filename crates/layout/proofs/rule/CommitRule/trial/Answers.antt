@@ -8,7 +8,7 @@ use Rattle.std.proofs.Common.{rules}
 use Rattle.rows.specs.Row.{row_in}
 use Rattle.coverage.specs.Coverage.{commits}
 use Rattle.layout.specs.Layout.{Fit, bound}
-use Rattle.layout.proofs.LayoutLaws.{spelled_commits}
+use Rattle.layout.proofs.LayoutLaws.{width_fits, spelled_commits}
 use Rattle.layout.proofs.Entries.{whole, laid_below}
 use Rattle.layout.proofs.rule.CommitRule.trial.Goals as goal
 
@@ -17,6 +17,8 @@ invariant_of-holdings c =
     let r = c.args.self.now in
     let fits : Fit r.data_shards (bound r.total) = search rules in
     let laid = c.lay-width.ensures.words ∙ whole r.data_shards r.total c.args.loads.now c.args.rows.now (omega (arith, c.requires.a_load_each, c.requires.a_row_each)) in record {
+      small = r.small;
+      narrow = omega (arith, c.lay-width.ensures.width, (width_fits r.data_shards r.total c.args.loads.now fits).2);
       whole = omega (arith, c.lay-width.auto.rows, c.requires.a_row_each);
       below = laid_below r.population r.data_shards r.total c.args.loads.now fits _ _ c.lay-width.ensures.width laid;
     }
