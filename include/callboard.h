@@ -12,8 +12,8 @@
  *   those of replica 1, and so on: 4 n words for n rows, where row s starts at word 4 s. A single row is passed by value.
  * - `ceiling` says what `width` is: 0 for the exact width of a layout, otherwise the most that it may be.
  * - There is no state and no allocation: calls may run side by side if they share no tally and no memory that one of them writes.
- * - The stack that a call takes, as bindings/rust/examples/stack.rs measures it: callboard_pick_assignment 38 KiB, but 14 up to 64 data
- *   shards; callboard_fault_list at most 11; callboard_parse_profile and callboard_accept_reply 5; every other function at most 4. A refused
+ * - The stack that a call takes, as bindings/rust/examples/stack.rs measures it: callboard_pick_assignment 39 KiB, but 16 up to 64 data
+ *   shards; callboard_fault_list at most 11; callboard_accept_reply 7; callboard_parse_profile 5; every other function at most 4. A refused
  *   call may take as much.
  *
  * Numbers that refuse

@@ -1,29 +1,33 @@
--- The mask of those outside a set, and a bit in the sign's place. Assumes nothing.
-use Rattle.std.specs.Prelude.{◌≡◌, not, ℕ, zero, suc, ◌+◌, ◌-◌, ◌*◌, ◌/◌, ◌%◌, ◌^◌, ◌≤◌, ◌<◌, eqb}
-use Rattle.std.proofs.Common.{refl, sym, ap, ◌∙◌, arith}
-use Rattle.std.proofs.Math.Nat.{mul-div_cancel}
-use Rattle.std.proofs.lemmas.Nat.{pow_pos, shr-shr}
-use Rattle.std.proofs.lemmas.Nat.Bits.{bit_at_not}
-use Rattle.std.specs.Int.{w64}
-use Rattle.bitmap.specs.Mask.{bit, has_bit}
-use Rattle.bitmap.specs.MaskLaws.{bit_lt}
+-- A replica alone, as a mask, beside a set. Assumes nothing.
+use Rattle.std.specs.Prelude.{◌≡◌, Bool, true, false, not, ℕ, zero, suc, ◌⊎◌, eqb}
+use Rattle.std.proofs.Common.{refl, ap, inl, inr, arith, min, eqb-true, eq-eqb, ne_eqb}
+use Rattle.std.proofs.lemmas.Bool.{eqb-false}
+use Rattle.std.specs.Int.Bits.{bit_and}
+use Rattle.bitmap.specs.Mask.{bit, has_bit, with_bit}
+use Rattle.bitmap.specs.MaskLaws.{bit_lt, bit_none, bit_of_and, with_means, same_bits}
 use Rattle.coverage.specs.Walk.{is_outside}
 
-pub left_outside : (fault : ℕ) → fault < 2 ^ 64 → (p : ℕ) → p < 64 → has_bit (18446744073709551615 - fault) p ≡ is_outside fault p
-left_outside fault h p l = ap (λ (x : ℕ). eqb x 1) (bit_at_not w64 fault p h l) ∙ go (bit fault p) (bit_lt fault p)
+-- they have nothing in common exactly where it is outside the set
+pub meets_not : (fault p : ℕ) → eqb (bit_and (with_bit 0 p) fault) 0 ≡ is_outside fault p
+meets_not fault p = go (has_bit fault p) refl
   where
-    go : (x : ℕ) → x < 2 → eqb (1 - x) 1 ≡ not (eqb x 1)
-    go zero h = refl
-    go (suc zero) h = refl
-    go (suc (suc x)) h = absurd (omega (arith, h))
+    alone : bit (with_bit 0 p) p ≡ 1
+    alone = (with_means 0 p p).1 (inr refl)
 
--- a bit is in the sign's place after a shift to it
-pub sign_is : (left p : ℕ) → p ≤ 63 → left * 2 ^ (63 - p) % 18446744073709551616 / 9223372036854775808 ≡ bit left p
-sign_is left p l =
-    let x : ℕ = left * 2 ^ (63 - p) in
-    let e : x / 9223372036854775808 ≡ left / 2 ^ p =
-    ap (λ (k : ℕ). x / 2 ^ k) whole ∙ sym (shr-shr x (63 - p) p) ∙ ap (λ (y : ℕ). y / 2 ^ p) (mul-div_cancel left (pow_pos (63 - p))) in
-    omega (arith, e)
-  where
-    whole : 63 ≡ 63 - p + p
-    whole = omega (arith, l)
+    common : (k : ℕ) → bit (bit_and (with_bit 0 p) fault) k ≡ min (bit (with_bit 0 p) k) (bit fault k)
+    common = bit_of_and (with_bit 0 p) fault
+
+    none : bit fault p ≡ 0 → (k : ℕ) → bit (bit_and (with_bit 0 p) fault) k ≡ bit 0 k
+    none e k = other (bit (with_bit 0 p) k) refl
+      where
+        other : (b : ℕ) → bit (with_bit 0 p) k ≡ b → bit (bit_and (with_bit 0 p) fault) k ≡ bit 0 k
+        other zero g = omega (arith, common k, g, bit_none k)
+        other (suc b) g = either ((with_means 0 p k).0 (omega (arith, g, bit_lt (with_bit 0 p) k)))
+          where
+            either : (bit 0 k ≡ 1) ⊎ (p ≡ k) → bit (bit_and (with_bit 0 p) fault) k ≡ bit 0 k
+            either (inl z) = absurd (omega (arith, z, bit_none k))
+            either (inr q) = omega (arith, common k, e, ap (bit fault) q, bit_none k)
+
+    go : (b : Bool) → has_bit fault p ≡ b → eqb (bit_and (with_bit 0 p) fault) 0 ≡ not b
+    go true e = ne_eqb (bit_and (with_bit 0 p) fault) 0 (λ z. omega (arith, common p, alone, eqb-true (bit fault p) 1 e, ap (λ (m : ℕ). bit m p) z, bit_none p))
+    go false e = eq-eqb (bit_and (with_bit 0 p) fault) 0 (same_bits (bit_and (with_bit 0 p) fault) 0 (none (omega (arith, eqb-false (bit fault p) 1 e, bit_lt fault p))))

@@ -6,10 +6,11 @@ ghost use Rattle.std.specs.List.{list_all, list_any};
 ghost use Rattle.rows.specs.Row.{row_in};
 ghost use Rattle.refusals.specs.Limits.{most_shards};
 ghost use Rattle.refusals.specs.Refused.{refusal_of, outcome_of};
-ghost use Rattle.coverage.specs.Walk.{rows_united_of};
+ghost use Rattle.coverage.specs.Walk.{walked, rows_united_of};
 ghost use Rattle.coverage.specs.Coverage.{leaves, RowsBelow, is_covered, commits, covers_refusal, covers_of, completes, is_survived, survived_refusal, survived_of};
 
 use refusals::{Refusal, unless};
+use rows::{Row, ShardSet};
 
 mod walk;
 
@@ -30,12 +31,34 @@ pub struct Holdings<'a> {
 }
 
 impl Holdings<'_> {
+    ghost use Rattle.coverage.specs.Walks.{ReadsRows};
+
     // Whether the rows of those heard survive every listed set. Nobody heard survives nothing.
+    #[inline(always)]
     #[tactic(auto, unfolding(crate::specs::Coverage::is_covered))]
     pub fn is_covered(&self, d: usize, faults: &[u64]) -> bool
         ensures { result ≡ is_covered self.now.population d self.now.heard (row_in self.now.rows.now) faults.now }
     {
         self.heard != 0 && self.all_leave(d, faults)
+    }
+
+    // How many rows are united under a set.
+    fn rows_united(&self, d: usize, fault: u64) -> usize
+        ensures { result ≡ walked self.now.population d self.now.heard (row_in self.now.rows.now) fault }
+    {
+        if self.width <= 64 {
+            return self.rows_united_as::<u64>(d, fault);
+        }
+        self.rows_united_as::<Row>(d, fault)
+    }
+
+    // The same with rows as sets of that type.
+    fn rows_united_as<S: ShardSet>(&self, d: usize, fault: u64) -> usize
+        requires { ReadsRows self.now (S.read self.now.rows.now) }
+        ensures { result ≡ walked self.now.population d self.now.heard (row_in self.now.rows.now) fault }
+    {
+        let mut room = [Rank::none(); 16];
+        self.in_order::<S>(d, &mut room).unite::<S>(fault).rows
     }
 
     // Whether it commits: at least a quorum is heard, and their rows survive every listed set.
@@ -46,14 +69,27 @@ impl Holdings<'_> {
         quorum <= bitmap::count(self.heard) && self.is_covered(d, faults)
     }
 
-    // Whether each listed set leaves at least d distinct shards.
+    // Whether each listed set leaves at least d distinct shards. Of a width of at most 64 the first words are the rows.
+    #[inline(always)]
     fn all_leave(&self, d: usize, faults: &[u64]) -> bool
+        ensures { result ≡ list_all (leaves self.now.population d self.now.heard (row_in self.now.rows.now)) faults.now }
+    {
+        if self.width <= 64 {
+            return self.all_leave_as::<u64>(d, faults);
+        }
+        self.all_leave_as::<Row>(d, faults)
+    }
+
+    // The same with rows as sets of that type.
+    #[inline(always)]
+    fn all_leave_as<S: ShardSet>(&self, d: usize, faults: &[u64]) -> bool
+        requires { ReadsRows self.now (S.read self.now.rows.now) }
         ensures { result ≡ list_all (leaves self.now.population d self.now.heard (row_in self.now.rows.now)) faults.now }
     {
         // A copy, since what is behind the reference would be read again after each write to the array.
         let holdings = *self;
         let mut room = [Rank::none(); 16];
-        holdings.in_order(d, &mut room).all_leave(faults)
+        holdings.in_order::<S>(d, &mut room).all_leave::<S>(faults)
     }
 }
 
@@ -99,9 +135,7 @@ pub fn rows_united(
         heard,
         rows,
     };
-    let mut room = [Rank::none(); 16];
-    let first = bitmap::word_at(faults, 0);
-    Ok(holdings.in_order(d, &mut room).under(first).rows)
+    Ok(holdings.rows_united(d, bitmap::word_at(faults, 0)))
 }
 
 // The discard rule: those heard include all survivors of some listed set.

@@ -15,9 +15,6 @@ use lib.Pow.{pow_pos}
 use lib.Seq.{sets}
 use Rattle.bitmap.specs.Mask.{has_bit, is_below, count, run, gather}
 use Rattle.bitmap.specs.CountLaws.{count_ones}
-use lib.IntN.{ℤ}
-use lib.Signed.{shr_z}
-use Rattle.std.specs.Int.{w64, cast_signed, cast_unsigned}
 use Rattle.rows.specs.declared.Row.{Row}
 use Rattle.rows.specs.Row.{value, words_of, words, row_of, span}
 use Rattle.rows.proofs.WordLaws.{Words, words_value, value_inj, value_bit, value_count, value_below, run_words}
@@ -120,23 +117,17 @@ put_is l i r h =
 abbrev pub all_of : ℕ → ℕ
 all_of f = f * 18446744073709551615
 
-pub all_small : (f : ℕ) → f < 2 → all_of f < 2 ^ 64
-all_small f h = omega arith
-
-taken_word : (x : ℕ) → x < 2 ^ 64 → bit_and x 18446744073709551615 ≡ x
-taken_word x h = and_mask x 64 ∙ mod-eq_of_lt h
+pub taken_word : (x : ℕ) → x < 2 ^ 64 → (f : ℕ) → f < 2 → bit_and x (all_of f) ≡ cond (eqb f 1) x 0
+taken_word x h zero g = and_zero_r x
+taken_word x h (suc zero) g = and_mask x 64 ∙ mod-eq_of_lt h
+taken_word x h (suc (suc f)) g = absurd (omega arith)
 
 pub taken_is : (r : Row) → Words (words r) → (f : ℕ) → f < 2
     → value (bit_and r.w0 (all_of f) ∷ bit_and r.w1 (all_of f) ∷ bit_and r.w2 (all_of f) ∷ bit_and r.w3 (all_of f) ∷ []) ≡ cond (eqb f 1) (row_of r) 0
 unfolding value
-taken_is r h zero g = rw (and_zero_r r.w0, and_zero_r r.w1, and_zero_r r.w2, and_zero_r r.w3) refl
-taken_is r h (suc zero) g = rw (taken_word r.w0 (h 0), taken_word r.w1 (h 1), taken_word r.w2 (h 2), taken_word r.w3 (h 3)) refl
-taken_is r h (suc (suc f)) g = absurd (omega arith)
-
--- the same of a word: the flag, as the sign of a whole number, spread over 64 bits
-pub spread_is : (x f : ℕ) → x < 2 ^ 64 → f < 2 → (z : ℤ) → z ≡ cast_signed w64 (f * 9223372036854775808 % 18446744073709551616)
-    → (u : ℕ) → u ≡ cast_unsigned w64 (cast_signed w64 (cast_unsigned w64 (shr_z (cast_signed w64 (cast_unsigned w64 z)) 9223372036854775808)))
-    → bit_and x u ≡ cond (eqb f 1) x 0
-spread_is x zero h g z e u q = rw (q, e) (and_zero_r x)
-spread_is x (suc zero) h g z e u q = rw (q, e) (taken_word x h)
-spread_is x (suc (suc f)) h g z e u q = absurd (omega arith)
+taken_is r h f g = rw (taken_word r.w0 (h 0) f g, taken_word r.w1 (h 1) f g, taken_word r.w2 (h 2) f g, taken_word r.w3 (h 3) f g) (go f g)
+  where
+    go : (f : ℕ) → f < 2 → value (cond (eqb f 1) r.w0 0 ∷ cond (eqb f 1) r.w1 0 ∷ cond (eqb f 1) r.w2 0 ∷ cond (eqb f 1) r.w3 0 ∷ []) ≡ cond (eqb f 1) (row_of r) 0
+    go zero g = refl
+    go (suc zero) g = refl
+    go (suc (suc f)) g = absurd (omega arith)

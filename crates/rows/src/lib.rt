@@ -96,10 +96,9 @@ impl ShardSet for u64 {
         bitmap::count(self)
     }
 
-    // The sign of a word is spread over it: a product, or a mask made by one, becomes a branch here.
     #[inline]
     fn taken(self, flag: u64) -> u64 {
-        self & ((flag << 63).cast_signed() >> 63).cast_unsigned()
+        self & spread(flag)
     }
 
     #[inline]
@@ -163,7 +162,7 @@ impl ShardSet for Row {
 
     #[inline]
     fn taken(self, flag: u64) -> Row {
-        let all = flag * 0xffff_ffff_ffff_ffff;
+        let all = spread(flag);
         Row {
             w0: self.w0 & all,
             w1: self.w1 & all,
@@ -205,6 +204,15 @@ impl ShardSet for Row {
     fn row(self) -> Row {
         self
     }
+}
+
+// A word whose every bit is the flag, as a sign is spread over a number. A product, or a test, is compiled to a branch on the flag.
+#[inline]
+fn spread(flag: u64) -> u64
+    requires { flag < 2 }
+    ensures { result ≡ flag * 18446744073709551615 }
+{
+    ((flag << 63).cast_signed() >> 63).cast_unsigned()
 }
 
 impl Row {

@@ -6,4 +6,4 @@ use Rattle.rows.proofs.RowShardSet.taken.Goals as goal
 pub returns : goal.returns
 returns c =
     let a = c.args in
-    taken_is a.self (are_words a.self (omega arith) (omega arith) (omega arith) (omega arith)) a.flag c.requires
+    rw c.spread-all.ensures (taken_is a.self (are_words a.self (omega arith) (omega arith) (omega arith) (omega arith)) a.flag c.requires)
