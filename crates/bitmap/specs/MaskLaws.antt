@@ -1,11 +1,12 @@
 -- The laws of masks, at any width: bits of a union and of a meet, and when two masks are equal. Assumes nothing.
-use Rattle.std.specs.Prelude.{◌↔◌, ◌⊎◌, true, not, ◌&&◌, ◌||◌, ◌≡◌, refl, ℕ, zero, suc, ◌+◌, ◌-◌, ◌/◌, ◌*◌, ◌%◌, ◌^◌, ◌≤◌, ◌<◌, min, max, eqb}
-use Rattle.std.proofs.Common.{inl, inr, ⊎_elim, ltb-true, lt-ltb, eq-eqb, ne_eqb, sym, ap, ◌∙◌, subst, mod-lt, mul-div_cancel, div-one, zero-lt-suc, not-suc-le-zero, le_of_suc-le-suc, div-lt_iff_lt-mul, one-mul, pow-suc, lt_of_lt_of_le, one-add, arith, shr-shr, pow_mono, pow_pos}
+use Rattle.std.specs.Prelude.{◌↔◌, ◌⊎◌, Bool, true, false, not, ◌&&◌, ◌||◌, ◌≡◌, refl, ℕ, zero, suc, ◌+◌, ◌-◌, ◌/◌, ◌*◌, ◌%◌, ◌^◌, ◌≤◌, ◌<◌, min, max, eqb}
+use Rattle.std.proofs.Common.{inl, inr, ⊎_elim, ltb-true, lt-ltb, eqb-true, eq-eqb, ne_eqb, sym, ap, ◌∙◌, subst, mod-lt, mul-div_cancel, div-one, zero-lt-suc, not-suc-le-zero, le_of_suc-le-suc, div-lt_iff_lt-mul, one-mul, pow-suc, lt_of_lt_of_le, one-add, arith, shr-shr, pow_mono, pow_pos}
 use Rattle.std.proofs.Math.Nat.{div_self, mul-mod_left, zero-div, div-eq_of_lt}
 use Rattle.std.proofs.Math.Decide.{dec_lt, ℕ_discrete}
 use Rattle.std.proofs.Math.Arith.{bin_ind}
 use Rattle.std.proofs.Math.Pow.{ones_lt}
 use Rattle.std.specs.Int.Bits.{bit_or, bit_and, bit_xor, differ, or_step, and_step, xor_step, or_zero_r}
+use Rattle.std.proofs.lemmas.Bool.{eqb-false}
 use Rattle.std.proofs.lemmas.Nat.{or_shr, and_shr, xor_shr}
 use Rattle.bitmap.specs.Mask.{all_below, is_below, bit, has_bit, with_bit}
 
@@ -177,6 +178,31 @@ with_means m s k = (
     is : Dec (k ≡ s) → bit (2 ^ s) k ≡ 1 → s ≡ k
     is (yes q) p = sym q
     is (no f) p = absurd (omega (arith, bit_other s k f))
+
+-- the set of p alone and m have nothing in common exactly where p is not a member of m
+pub meets_not : (m p : ℕ) → eqb (bit_and (with_bit 0 p) m) 0 ≡ not (has_bit m p)
+meets_not m p = go (has_bit m p) refl
+  where
+    alone : bit (with_bit 0 p) p ≡ 1
+    alone = (with_means 0 p p).1 (inr refl)
+
+    common : (k : ℕ) → bit (bit_and (with_bit 0 p) m) k ≡ min (bit (with_bit 0 p) k) (bit m k)
+    common = bit_of_and (with_bit 0 p) m
+
+    nothing : bit m p ≡ 0 → (k : ℕ) → bit (bit_and (with_bit 0 p) m) k ≡ bit 0 k
+    nothing e k = other (bit (with_bit 0 p) k) refl
+      where
+        other : (b : ℕ) → bit (with_bit 0 p) k ≡ b → bit (bit_and (with_bit 0 p) m) k ≡ bit 0 k
+        other zero g = omega (arith, common k, g, bit_none k)
+        other (suc b) g = either ((with_means 0 p k).0 (omega (arith, g, bit_lt (with_bit 0 p) k)))
+          where
+            either : (bit 0 k ≡ 1) ⊎ (p ≡ k) → bit (bit_and (with_bit 0 p) m) k ≡ bit 0 k
+            either (inl z) = absurd (omega (arith, z, bit_none k))
+            either (inr q) = omega (arith, common k, e, ap (bit m) q, bit_none k)
+
+    go : (b : Bool) → has_bit m p ≡ b → eqb (bit_and (with_bit 0 p) m) 0 ≡ not b
+    go true e = ne_eqb (bit_and (with_bit 0 p) m) 0 (λ z. omega (arith, common p, alone, eqb-true (bit m p) 1 e, ap (λ (k : ℕ). bit k p) z, bit_none p))
+    go false e = eq-eqb (bit_and (with_bit 0 p) m) 0 (same_bits (bit_and (with_bit 0 p) m) 0 (nothing (omega (arith, eqb-false (bit m p) 1 e, bit_lt m p))))
 
 -- ---- all numbers below n
 

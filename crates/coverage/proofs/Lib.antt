@@ -1,5 +1,4 @@
 -- That the code computes what the definitions say, and worked values.
-pub mod Parts
 pub mod Entries
 pub mod Examples
 pub mod CoverageLaws

@@ -27,6 +27,11 @@ pub struct Input {
     pub faults: Vec<u64>,
 }
 
+/// A function of the port with these parameters.
+#[cfg(feature = "port")]
+type Function =
+    unsafe extern "C" fn(u64, u64, u64, u64, *const u64, usize, *const u64, usize) -> raw::Answer;
+
 impl Input {
     /// One that is accepted.
     pub fn random(rng: &mut Rng) -> Input {
@@ -61,6 +66,25 @@ impl Input {
             && rows_below(&self.rows, self.w);
         let ack = |(s, &row)| has(self.heard, s).then_some(row);
         right.then(|| (0..).zip(rows_of(&self.rows)).map(ack).collect())
+    }
+
+    #[cfg(feature = "port")]
+    pub fn given(&self, function: Function) -> Answer {
+        let (rows, faults) = (&self.rows, &self.faults);
+        // SAFETY: the tables are lent for the call, with their lengths.
+        let answer = unsafe {
+            function(
+                self.n,
+                self.d,
+                self.w,
+                self.heard,
+                rows.as_ptr(),
+                rows.len(),
+                faults.as_ptr(),
+                faults.len(),
+            )
+        };
+        Answer::given(answer.refusal, [answer.value], vec![])
     }
 }
 
@@ -149,21 +173,7 @@ impl Entry for Covers {
 
     #[cfg(feature = "port")]
     fn port(i: &Input) -> Answer {
-        let (rows, faults) = (&i.rows, &i.faults);
-        // SAFETY: the tables are lent for the call, with their lengths.
-        let answer = unsafe {
-            raw::callboard_covers(
-                i.n,
-                i.d,
-                i.w,
-                i.heard,
-                rows.as_ptr(),
-                rows.len(),
-                faults.as_ptr(),
-                faults.len(),
-            )
-        };
-        Answer::given(answer.refusal, [answer.value], vec![])
+        i.given(raw::callboard_covers)
     }
 
     fn words(i: &Input, line: &mut Line) {

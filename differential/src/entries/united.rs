@@ -210,21 +210,7 @@ impl Entry for RowsUnited {
 
     #[cfg(feature = "port")]
     fn port(i: &Input) -> Answer {
-        let (rows, faults) = (&i.rows, &i.faults);
-        // SAFETY: the tables are lent for the call, with their lengths.
-        let answer = unsafe {
-            raw::callboard_rows_united(
-                i.n,
-                i.d,
-                i.w,
-                i.heard,
-                rows.as_ptr(),
-                rows.len(),
-                faults.as_ptr(),
-                faults.len(),
-            )
-        };
-        Answer::given(answer.refusal, [answer.value], vec![])
+        i.given(raw::callboard_rows_united)
     }
 
     fn words(i: &Input, line: &mut Line) {
