@@ -155,13 +155,13 @@ impl<'a> Iterator for Parts<'a> {
 
     fn next(&mut self) -> Option<&'a [u8]> {
         let s = self.rest?;
-        let end = find(s, self.separator);
-        if end == s.len() {
+        let q = part(s, 0, self.separator);
+        if q.len() == s.len() {
             self.rest = None;
-            return Some(s);
+            return Some(q);
         }
-        self.rest = Some(after(s, end + 1));
-        Some(upto(s, end))
+        self.rest = Some(after(s, q.len() + 1));
+        Some(q)
     }
 }
 
