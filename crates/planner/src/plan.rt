@@ -42,8 +42,7 @@ pub fn plan(out: &impl Print, description: Description<'_>) -> io::Result<()> {
 
 fn steps<'a>(out: &impl Print, description: Description<'a>) -> Result<(), Stop<'a>> {
     site_check::check_lines(description)?;
-    if !site_check::is_complete(description) {
-        site_check::print_missing(out, description)?;
+    if !site_check::print_incomplete(out, description)? {
         return Ok(());
     }
     let refused = |refusal| Problem::refused(description, refusal);

@@ -9,7 +9,7 @@
 // N is a whole number, X a decimal; a peer's names may be in any order. What is read is in no contract: the entries check it.
 #![tactic(auto)]
 
-ghost use Rattle.std.specs.Prelude.{length};
+ghost use Rattle.std.specs.Prelude.{◌≤◌, length};
 ghost use Rattle.std.specs.Iterator.{at_most};
 ghost use Rattle.std.specs.Iterator.Adapters.{zip_first};
 
@@ -98,7 +98,7 @@ impl<'a> Line<'a> {
 
     // The text after its first word.
     pub fn value(self) -> &'a [u8] {
-        after_word(self.said)
+        from_word(self.said, 1)
     }
 
     // Its value as the text of a peer, where its key is `peer`.
@@ -107,8 +107,7 @@ impl<'a> Line<'a> {
     }
 
     fn is_of_peer(self, peers: &RangeInclusive<u64>) -> bool {
-        let p = number(self.peer().number());
-        self.key() == Ok(Key::Peer) && peers.contains(&p)
+        self.key() == Ok(Key::Peer) && peers.contains(&number(self.peer().number()))
     }
 }
 
@@ -131,27 +130,43 @@ impl<'a> Iterator for Lines<'a> {
 }
 
 fn without_comment(s: &[u8]) -> &[u8] {
-    let end = s.iter().position(|b| *b == b'#').unwrap_or(s.len());
-    numerals::trimmed(&s[..end])
+    numerals::trimmed(numerals::part(s, 0, b'#'))
 }
 
 // ---- words
 
 // Word k of s, from 0; empty if there are no more than k.
 pub fn word(s: &[u8], k: usize) -> &[u8] {
-    let mut words = s
-        .split(|b| numerals::is_blank(*b))
-        .filter(|w| !w.is_empty());
-    words.nth(k).unwrap_or(&s[..0])
+    let rest = from_word(s, k);
+    &rest[..word_end(rest)]
 }
 
-// s from its second word on.
-fn after_word(s: &[u8]) -> &[u8] {
-    let end = s
-        .iter()
+// s from word k on.
+fn from_word(s: &[u8], k: usize) -> &[u8] {
+    let mut rest = &s[gap_end(s)..];
+    for _ in 0..k {
+        rest = &rest[word_end(rest)..];
+        rest = &rest[gap_end(rest)..];
+    }
+    rest
+}
+
+// Where the word at the start of s ends.
+fn word_end(s: &[u8]) -> usize
+    ensures { result ≤ length s.now }
+{
+    s.iter()
         .position(|b| numerals::is_blank(*b))
-        .unwrap_or(s.len());
-    numerals::trimmed(&s[end..])
+        .unwrap_or(s.len())
+}
+
+// Where the blanks at the start of s end.
+fn gap_end(s: &[u8]) -> usize
+    ensures { result ≤ length s.now }
+{
+    s.iter()
+        .position(|b| !numerals::is_blank(*b))
+        .unwrap_or(s.len())
 }
 
 // ---- values
@@ -161,14 +176,20 @@ pub fn read_whole(s: &[u8]) -> Option<u64> {
     if !numerals::is_digits(s) {
         return None;
     }
-    Some(s.iter().fold(0, |v, b| with_digit(v, *b)))
+    let mut v: u64 = 0;
+    for b in s {
+        if MOST < v {
+            return Some(u64::MAX);
+        }
+        v = v * 10 + digit(*b);
+    }
+    Some(v)
 }
 
-fn with_digit(v: u64, b: u8) -> u64 {
-    if MOST < v {
-        return u64::MAX;
-    }
-    v * 10 + u64::from(b) % 16 % 10
+fn digit(b: u8) -> u64
+    ensures { result ≤ 9 }
+{
+    u64::from(b) % 16 % 10
 }
 
 // A whole number, or 0 where it is none.
@@ -183,11 +204,10 @@ pub fn float(s: &[u8]) -> f64 {
 
 // A width: exactly N, or at most N.
 pub fn read_width(s: &[u8]) -> Option<TotalShards> {
-    let rest = after_word(s);
     match word(s, 0) {
-        b"exactly" => Some(TotalShards::Exactly(read_whole(rest)? as usize)),
-        b"at" if matches!(word(rest, 0), b"most") => {
-            let most = read_whole(after_word(rest))?;
+        b"exactly" => Some(TotalShards::Exactly(read_whole(from_word(s, 1))? as usize)),
+        b"at" if matches!(word(s, 1), b"most") => {
+            let most = read_whole(from_word(s, 2))?;
             Some(TotalShards::AtMost(most as usize))
         }
         _ => None,

@@ -203,25 +203,36 @@ pub fn check_peers(description: Description<'_>, n: usize) -> Result<(), Problem
 
 // ---- what is missing
 
-// Whether every key is there, and a line for every peer.
+// Whether every key is there, and a line for every peer but our own, which needs none.
 pub fn is_complete(description: Description<'_>) -> bool {
+    let own = description.number_of(Key::Own);
     Key::ONCE.iter().all(|key| has(description, *key))
-        && peers(description).all(|p| has_peer(description, p))
+        && peers(description).all(|p| p == own || description.peer(p).is_some())
 }
 
 // Prints each key and each peer that is missing.
 pub fn print_missing(rt: &impl Print, description: Description<'_>) -> io::Result<()> {
+    print_incomplete(rt, description)?;
+    Ok(())
+}
+
+// The same, and whether nothing is missing: each is looked up once.
+pub fn print_incomplete(rt: &impl Print, description: Description<'_>) -> io::Result<bool> {
+    let mut complete = true;
     for key in Key::ONCE {
         if !has(description, key) {
             println!(rt; "missing: {key}")?;
+            complete = false;
         }
     }
+    let own = description.number_of(Key::Own);
     for p in peers(description) {
-        if !has_peer(description, p) {
+        if p != own && description.peer(p).is_none() {
             println!(rt; "missing: peer {p}")?;
+            complete = false;
         }
     }
-    Ok(())
+    Ok(complete)
 }
 
 fn has(description: Description<'_>, key: Key) -> bool {
@@ -235,11 +246,6 @@ fn peers(description: Description<'_>) -> Range<u64> {
         return 0..0;
     }
     0..n
-}
-
-// Whether a replica has a line. Our own needs none.
-fn has_peer(description: Description<'_>, p: u64) -> bool {
-    p == description.number_of(Key::Own) || description.peer(p).is_some()
 }
 
 // ---- refusals
