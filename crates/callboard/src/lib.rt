@@ -291,11 +291,14 @@ fn policy(input: &PolicyInput, fits: bool) -> Result<Policy, Refusal>
 }
 
 // Copies a part that has as many words as the table; a refused choice has none.
+// Kept as it is: copy_from_slice was tried: with it the archive for C needs memmove from outside.
 fn copy_part(part: &[u64], rows: &mut [u64])
     ensures { rows.new ≡ copied part.now rows.old }
 {
     if part.len() == rows.len() {
-        rows.copy_from_slice(part);
+        for i in 0..rows.len() {
+            rows[i] = part[i];
+        }
     }
 }
 
