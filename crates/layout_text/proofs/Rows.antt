@@ -2,8 +2,8 @@
 use mathlib.Core.Path.{◌≡◌, sym, ap, subst, ◌∙◌}
 use mathlib.Core.Bool.{true, false}
 use mathlib.Core.List.{List}
-use Prim.Native.Nat.{ℕ, ◌+◌, ◌*◌, ◌^◌, ◌≤◌, ◌<◌}
-use native.Mathlib.Nat.{lt_of_lt_of_le, le_of_eq}
+use Prim.Native.Nat.{ℕ, ◌+◌, ◌*◌, ◌/◌, ◌^◌, ◌≤◌, ◌<◌}
+use native.Mathlib.Nat.{le_trans, lt_of_lt_of_le, le_of_eq, le_of_lt, mul-le-mul_right, mul-div-le}
 use native.Mathlib.Omega.{arith}
 use lib.Bits.{bit_or}
 use lib.ListN.{length, take, drop, get_or, replicate}
@@ -32,6 +32,9 @@ use Rattle.layout_text.specs.LayoutText.{share, run_at, runs_of, length_of, segm
 use Rattle.layout_text.proofs.LayoutLaws.{segment_below, tabled}
 
 -- ---- the start of a run, which must fit a word
+pub start_le : (n total r : ℕ) → r < n → r * share n total ≤ total
+start_le n total r h = le_trans (mul-le-mul_right (total / n) (le_of_lt h)) (mul-div-le total n)
+
 -- ---- the reading of a segment: c is where its colon stands
 module _ (n total : ℕ) (s : List ℕ) {c : ℕ} (f : c ≡ cut 58 s) where
   pub colon_le : c ≤ length s

@@ -4,15 +4,15 @@
 use mathlib.Core.Path.{◌≡◌, refl, sym, ap, ◌∙◌}
 use mathlib.Core.Bool.{Bool, true, false, cond}
 use mathlib.Core.List.{List, [], ◌∷◌, ◌++◌, append-nil, append_assoc, foldl, foldl-append}
-use Prim.Native.Nat.{ℕ, suc, ◌+◌, ◌≤◌, ◌<◌}
-use native.Mathlib.Nat.{le_of_eq}
+use Prim.Native.Nat.{ℕ, zero, suc, ◌+◌, ◌≤◌, ◌<◌}
+use native.Mathlib.Nat.{le_of_eq, le_refl, le_trans}
 use native.Mathlib.Decide.{le_ind}
 use native.Mathlib.Numerals.{add-one}
 use native.Mathlib.Omega.{arith}
 use lib.ListN.{length, take, set, length-set, length-append, length-drop, drop_of_length-le}
 use lib.Seq.{set-append_seam, drop-cons, take_all, take-suc-set}
 use Rattle.std.specs.List.{filter}
-use Rattle.lists.specs.Below.{some_below, each_below, front}
+use Rattle.lists.specs.Below.{some_below, each_below, those_below, front}
 use Rattle.lists.specs.BelowLaws.{some_below_means}
 use Rattle.lists.specs.ListedLaws.{passing_append}
 
@@ -31,6 +31,26 @@ module _ (xs l : List ℕ) where
   pub front_more : (x c : ℕ) → c ≡ length xs → length xs < length l → set (front xs l) c x ≡ front (xs ++ (x ∷ [])) l
   unfolding front
   front_more x c e h = rw (e, drop-cons l (length xs) 0 h, set-append_seam, length-append, add-one, append_assoc)
+
+-- ---- the numbers below a bound that pass
+module _ (f : ℕ → Bool) where
+  step : (k : ℕ) → length (those_below f k) ≤ length (those_below f (suc k))
+  unfolding those_below
+  step k = simp length-append (omega arith)
+
+  -- with more tried there are not fewer
+  pub those_mono : (i k : ℕ) → i ≤ k → length (those_below f i) ≤ length (those_below f k)
+  those_mono i k h = le_ind (λ (m : ℕ). length (those_below f i) ≤ length (those_below f m)) (le_refl _) (λ m l e. le_trans e (step m)) k h
+
+  -- and no more than were tried
+  pub those_length : (k : ℕ) → length (those_below f k) ≤ k
+  unfolding those_below
+  those_length zero = le_refl zero
+  those_length (suc k) = simp length-append (go (f k) (those_length k))
+    where
+      go : (b : Bool) → length (those_below f k) ≤ k → length (those_below f k) + length (cond b (k ∷ []) []) ≤ suc k
+      go true h = omega arith
+      go false h = omega arith
 
 -- ---- a loop up to n that writes f 0, f 1, .. at the places 0, 1, ..: w is the list as written so far
 module _ {A : Type 0} (f : ℕ → A) where

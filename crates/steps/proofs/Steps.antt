@@ -11,7 +11,6 @@ use lib.Ieee.{Float}
 use lib.ListN.{length, get_or}
 use borrow.Author.Tests.{le-ltb, not-true, not-false}
 use Rattle.lists.specs.First.{least_up_to}
-use Rattle.lists.specs.AllLaws.{inside_any}
 use Rattle.lists.specs.BelowLaws.{each_below_at}
 use Rattle.lists.specs.Sort.{sorted_by}
 use Rattle.floats.specs.Floats.{plus_zero, total_le, precedes}
@@ -20,7 +19,6 @@ use Rattle.times.specs.Times.{never, predict_of, model_in, models_in}
 use Rattle.steps.specs.Steps.{peer_at, in_flight, still, peer_time, peer_times, step_time, step_shards, step_quorum, time_of_step, best_step}
 use Rattle.steps.proofs.StepLaws.{shares_positive, steps_all, peer_below, best_step_means}
 
--- ---- a model, read: what a table lacks does not matter
 -- ---- the j-th of m peers, p, and its time
 module _ (own j p m : ℕ) (small : j < m) (place : p ≡ peer_at own j) where
   peer_inside : p < m + 1
