@@ -89,6 +89,9 @@ pub struct Line<'a> {
 impl<'a> Line<'a> {
     // What its first word means.
     pub fn key(self) -> Result<Key, Unknown> {
+        if self.said.is_empty() {
+            return Err(Unknown);
+        }
         Key::try_from(self.first_word())
     }
 
